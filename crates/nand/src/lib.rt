@@ -32,7 +32,7 @@ impl<'a> Nand<'a> {
         ensures image { λ r. ⌜ now (r .image) ≡ now (image .entry) ⌝ }
         ensures lender { λ r. ⌜ name (r .image) ≡ name (image .entry) ⌝ }
     {
-        Nand { image }
+        Self { image }
     }
 
     // The image again.

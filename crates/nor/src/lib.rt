@@ -35,7 +35,7 @@ impl<'a> Nor<'a> {
         ensures image { λ r. ⌜ now (r .image) ≡ now (image .entry) ⌝ }
         ensures lender { λ r. ⌜ name (r .image) ≡ name (image .entry) ⌝ }
     {
-        Nor { image }
+        Self { image }
     }
 
     // The image again.
