@@ -1,0 +1,4 @@
+// What the program `inspect` does between reading a chip image and printing.
+pub mod arguments;
+pub mod images;
+pub mod reports;
