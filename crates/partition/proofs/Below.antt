@@ -71,11 +71,11 @@ page-in-block per first count l page block place at some d r h e =
     page-below (first * per) (count * per) l page (at * per + place) (omega (arith, add-mul (page / per) 1 per, mod-below page per some)) (omega (arith, add-mul first (page / per) per))
 
 -- Without its block there is no page.
-pub page-lacking : (per first count blocks : ℕ) (l : List Page) (page block : ℕ) → length l ≡ blocks * per → block ≡ page / per → existing first count blocks ≤ block → length (take (count * per) (drop (first * per) l)) ≤ page
-page-lacking per first count blocks l page block whole d h =
-    omega (arith, length-part (first * per) (count * per) l, existing-pages per first count blocks, div-add-mod' page per, mul-le-mul-right {m = existing first count blocks} {n = page / per} per (omega arith))
+pub page-lacking : (per n page block : ℕ) {blocks : ℕ} → n ≡ blocks * per → block ≡ page / per → blocks ≤ block → n ≤ page
+page-lacking per n page block {blocks} whole d h =
+    omega (arith, div-add-mod' page per, mul-le-mul-right {m = blocks} {n = page / per} per (omega arith))
 
-module _ (per first count blocks : ℕ) (l : List Page) (some : 0 < per) (whole : length l ≡ blocks * per) (b at : ℕ) (i : b < existing first count blocks) (e : at ≡ first + b) where
+module _ (per first count blocks : ℕ) (l : List Page) (some : 0 < per) (whole : length l ≡ blocks * per) (b at : ℕ) (h : b < count) (e : at ≡ first + b) (small : at < 4096) where
   abbrev m : ℕ
   m = first * per
 
@@ -88,21 +88,22 @@ module _ (per first count blocks : ℕ) (l : List Page) (some : 0 < per) (whole 
   abbrev Erases : Type 0
   Erases = Changed m n l (pagesErased per blocks l at) (pagesErased per nb (part m n l l) b)
 
-  in-chip : at < blocks
-  in-chip = omega arith
-
-  erases : Erases
-  erases =
+  erase-block : at < blocks → Erases
+  erase-block i =
+      let t : b < nb = omega arith in
       let place : at * per ≡ m + b * per = ap (λ k. k * per) e ∙ add-mul first b per in
       let less = mul-le-mul-right {m = b + 1} {n = nb} per (omega arith) in
       let room : b * per + per ≤ length (part m n l l) = omega (arith, length-part m n l, existing-pages per first count blocks, add-mul b 1 per) in
-      rw (lt-ltb at blocks in-chip, lt-ltb b nb i, place) (splice m n l (b * per) per (replicate per erasedPage) (length-replicate per erasedPage) some room)
+      rw (lt-ltb at blocks i, lt-ltb b nb t, place) (splice m n l (b * per) per (replicate per erasedPage) (length-replicate per erasedPage) some room)
+
+  erase-none : blocks ≤ at → Erases
+  erase-none i = let t : nb ≤ b = omega arith in rw (le-ltb at blocks i, le-ltb b nb t) (unchanged m n l)
 
   pub block-below : BlockBelow per first count blocks l b at
   block-below = record {
-    within = omega arith;
-    below = in-chip;
+    within = h;
     is = e;
+    small = small;
     exists = grind (arith, tells);
-    erased = erases;
+    erased = ⊎-elim erase-block erase-none (cases-lt at blocks);
   }

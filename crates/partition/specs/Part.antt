@@ -55,8 +55,8 @@ pub record PageBelow (m n : ℕ) (pages : List Page) (p at : ℕ) : Type 0 where
 -- The same of block b of `count` from block `first` on, and of block `at` of all `blocks`.
 pub record BlockBelow (per first count blocks : ℕ) (pages : List Page) (b at : ℕ) : Type 0 where
   pub within : b < count
-  pub below : at < blocks
   pub is : at ≡ first + b
+  pub small : at < 4096
   pub exists : ltb at blocks ≡ ltb b (existing first count blocks)
   pub erased : Changed (first * per) (count * per) pages (pagesErased per blocks pages at) (pagesErased per (existing first count blocks) (take (count * per) (drop (first * per) pages)) b)
 

@@ -1,7 +1,7 @@
 use mathlib.Core.Path.{ap}
 use native.Mathlib.Omega.{arith}
-use Rattle.std.proofs.shelf.Bits.{mod-below, mul-le}
 use Rattle.std.proofs.shelf.Results.{err-from-errBy}
+use Rattle.partition.specs.Shaped.{part-shape}
 use Rattle.partition.proofs.Below.{page-in-block, page-lacking}
 use Rattle.partition.proofs.Partition.page_below.Needs as need
 
@@ -12,17 +12,7 @@ returns-in-Break-block g c =
     let p = err-from-errBy (c .from-residual .result) (c .from-residual .ensures .1) in
     let d = ap (λ z. z .0 .0) (c .split-place .ensures) in
     let h = c .in-Break-block .ensures tt in
-    rw (p .1, p .2) (page-lacking (m .per) (s .first) (s .count) (m .blocks (s .below)) (m .pages (s .below)) (c .args .page .0) _ (m .shape .whole (s .below)) d (h .0), h .1)
-
-pub cast-result : need.cast-result
-cast-result g c =
-    let m = g .C·Chip in
-    let s = c .args .self .now in
-    let b = c .in-Continue-block .ensures tt in
-    let r = ap (λ z. z .1) (c .split-place .ensures) in
-    let few = m .shape .few (s .below) in
-    let small = mul-le (c .in-Continue-block .block .0) (c .block-pages .result) 4095 64 (omega (arith, b .below)) (omega (arith, c .block-pages .ensures, m .shape .most)) in
-    omega (arith, mod-below (c .args .page .0) (m .per) (omega (arith, m .shape .least)), m .shape .most)
+    rw (p .1, p .2) (page-lacking (m .per) _ (c .args .page .0) (c .split-place .result .0 .0) (part-shape (m .shape) .whole s) d (h .0), h .1)
 
 pub returns : need.returns
 returns g c =

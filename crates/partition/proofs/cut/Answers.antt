@@ -4,7 +4,7 @@ use native.Mathlib.Omega.{arith}
 use Rattle.partition.specs.Part.{existing}
 use Rattle.partition.specs.Shaped.{min-mul, existing-pages}
 use Rattle.partition.proofs.Below.{cut-part}
-use Rattle.partition.proofs.calls.cut.Needs as need
+use Rattle.partition.proofs.cut.Needs as need
 
 pub returns : need.returns
 returns c =
