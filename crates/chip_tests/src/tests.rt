@@ -10,6 +10,11 @@ use nor::NorChip;
 use partition::Partition;
 use partition::PartitionChip;
 use std::test::*;
+use test_chips::Counting;
+use test_chips::CountingChip;
+use test_chips::Row;
+use test_chips::Tiny;
+use test_chips::TinyChip;
 
 // The number of a chip's answer.
 fn number_of(answer: Result<(), ChipFault>) -> u8 {
@@ -235,4 +240,28 @@ fn a_partition_is_cut_to_what_exists() -> Result<(), Fail> {
     check_eq(cut(u32::MAX, 1), 0)?;
     check_eq(cut(u32::MAX, usize::MAX), 0)?;
     check_eq(cut(2, 0), 0)
+}
+
+#[test]
+fn tiny_refuses_and_grants() -> Result<(), Fail> {
+    let mut rows = [Row::erased(); 7];
+    let mut chip = Tiny::new(&mut rows);
+    check_eq(chip.size(), 3)?;
+    behaves(&mut chip, 6)
+}
+
+#[test]
+fn counting_counts_calls_of_each_kind() -> Result<(), Fail> {
+    let mut rows = [Row::erased(); 4];
+    let mut chip = Counting::new(Tiny::new(&mut rows));
+    check_eq(number_of(chip.program(PageNumber(1), &page_of(3))), 0)?;
+    check_eq(number_of(chip.program(PageNumber(1), &page_of(3))), 23)?;
+    check_eq(number_of(chip.erase(BlockNumber(0))), 0)?;
+    check_page(&chip, 1, 0xFF)?;
+    check_page(&chip, 2, 0xFF)?;
+    check_page(&chip, 3, 0xFF)?;
+    check_eq(chip.programs(), 2)?;
+    check_eq(chip.erases(), 1)?;
+    check_eq(chip.reads(), 3)?;
+    check_eq(chip.into_below().size(), 2)
 }
