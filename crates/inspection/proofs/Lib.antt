@@ -1,3 +1,4 @@
 pub mod Requests
 pub mod Words
 pub mod Turns
+pub mod Joins

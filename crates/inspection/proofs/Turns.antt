@@ -9,17 +9,20 @@ use Rattle.std.proofs.shelf.Lists.{append-assoc, append-nil, at-drop-more, at-d
 use Rattle.std.proofs.shelf.Sums.{folded-more}
 use Rattle.std.specs.Iters.{folded}
 use Rattle.chip.specs.Pages.{Page, Shape}
-use Rattle.inspection.specs.Reports.{kindOf, described, pageLine, pageLines, none, counted, total, tallyOf}
-use Rattle.inspection.specs.declared.reports.PageKind.{PageKind}
-use Rattle.inspection.specs.declared.reports.PageKind.the-variants.{Erased, Programmed}
+use Rattle.layout.specs.Page.{Meaning, Erased, Data, Deletion, Register, Bad}
+use Rattle.inspection.specs.Descriptions.{described}
+use Rattle.inspection.specs.Reports.{kindOf, pageLine, pageLines, none, counted, total, tallyOf}
 use Rattle.inspection.specs.declared.reports.Tally.{Tally}
 
 few-pages : {C : Type 0} {per : ℕ} {blocks : C → ℕ} {pages : C → List Page} (shape : Shape per blocks pages) (chip : C) → length (pages chip) ≤ 262144
 few-pages shape chip = omega (arith, shape .whole chip, mul-le-mul (shape .few chip) (shape .most))
 
-total-counted : (kind : PageKind) (t : Tally) → total (counted kind t) ≡ total t + 1
+total-counted : (kind : Meaning) (t : Tally) → total (counted kind t) ≡ total t + 1
 total-counted Erased t = omega arith
-total-counted Programmed t = omega arith
+total-counted (Data s b) t = omega arith
+total-counted (Deletion s b) t = omega arith
+total-counted (Register b held label) t = omega arith
+total-counted (Bad cause) t = omega arith
 
 total-from : (t : Tally) (pages : List Page) → total (folded (λ t page. counted (kindOf page) t) t pages) ≡ total t + length pages
 total-from t [] = omega arith
@@ -34,7 +37,7 @@ pub tally-fits : {C : Type 0} {per : ℕ} {blocks : C → ℕ} {pages : C → Li
 tally-fits {pages = pages} shape chip i is =
     omega (arith, ap total is, total-tallyOf (take i (pages chip)), length-take i (pages chip), few-pages shape chip)
 
-module _ (pages : List Page) (i : ℕ) (h : i < length pages) {page : Page} {kind : PageKind} (read : page ≡ getD pages i []) (is : kind ≡ kindOf page) where
+module _ (pages : List Page) (i : ℕ) (h : i < length pages) {page : Page} {kind : Meaning} (read : page ≡ getD pages i []) (is : kind ≡ kindOf page) where
   pub tally-more : {tally : Tally} → tally ≡ tallyOf (take i pages) → counted kind tally ≡ tallyOf (take (i + 1) pages)
   tally-more inv = rw (inv, is, read) (sym (folded-more (λ t page. counted (kindOf page) t) none pages i [] h))
 

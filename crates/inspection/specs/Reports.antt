@@ -1,5 +1,4 @@
 -- The report on a chip, over the chip's pages.
-use mathlib.Core.Bool.{cond}
 use mathlib.Core.List.{List, [], _∷_, _++_}
 use Prim.Native.Nat.{ℕ, _+_, _/_, _%_}
 use lib.Chars.{codes}
@@ -8,9 +7,9 @@ use Rattle.std.specs.Iters.{folded}
 use Rattle.std.specs.Written.{decimal}
 use Rattle.std.specs.declared.option.Option.{Option}
 use Rattle.std.specs.declared.option.Option.the-variants.{Some, None}
-use Rattle.chip.specs.Pages.{Page, isErased}
-use Rattle.inspection.specs.declared.reports.PageKind.{PageKind}
-use Rattle.inspection.specs.declared.reports.PageKind.the-variants.{Erased, Programmed}
+use Rattle.chip.specs.Pages.{Page}
+use Rattle.layout.specs.Page.{Meaning, Erased, Data, Deletion, Register, Bad, meaning}
+use Rattle.inspection.specs.Descriptions.{described}
 use Rattle.inspection.specs.declared.reports.Tally.{Tally}
 
 -- The parts of a line, one after the other, and the line's end.
@@ -18,13 +17,9 @@ abbrev pub line : List (List ℕ) → List ℕ
 line [] = 10 ∷ []
 line (part ∷ parts) = part ++ line parts
 
-abbrev pub kindOf : Page → PageKind
-kindOf page = cond (isErased page) Erased Programmed
-
--- What the line of a page says of it; an erased page has no line.
-abbrev pub described : PageKind → Option (List ℕ)
-described Erased = None
-described Programmed = Some (codes "programmed")
+-- What a page is. (Shut, so that it does not compute.)
+unfoldable pub kindOf : Page → Meaning
+kindOf page = meaning page
 
 module _ (per : ℕ) where
   -- The line of a page, by the page's number and what is said of it.
@@ -39,20 +34,25 @@ module _ (per : ℕ) where
   pageLines number (page ∷ pages) = pageLine number (described (kindOf page)) ++ pageLines (number + 1) pages
 
 abbrev pub none : Tally
-none = record { erased = 0; programmed = 0 }
+none = record { erased = 0; versions = 0; deletions = 0; registers = 0; bad = 0 }
 
-abbrev pub counted : PageKind → Tally → Tally
-counted Erased t = record { erased = t .erased + 1; programmed = t .programmed }
-counted Programmed t = record { erased = t .erased; programmed = t .programmed + 1 }
+-- One page more.
+abbrev pub counted : Meaning → Tally → Tally
+counted Erased t = record { erased = t .erased + 1; versions = t .versions; deletions = t .deletions; registers = t .registers; bad = t .bad }
+counted (Data s b) t = record { erased = t .erased; versions = t .versions + 1; deletions = t .deletions; registers = t .registers; bad = t .bad }
+counted (Deletion s b) t = record { erased = t .erased; versions = t .versions; deletions = t .deletions + 1; registers = t .registers; bad = t .bad }
+counted (Register b held label) t = record { erased = t .erased; versions = t .versions; deletions = t .deletions; registers = t .registers + 1; bad = t .bad }
+counted (Bad cause) t = record { erased = t .erased; versions = t .versions; deletions = t .deletions; registers = t .registers; bad = t .bad + 1 }
 
 abbrev pub total : Tally → ℕ
-total t = t .erased + t .programmed
+total t = t .erased + t .versions + t .deletions + t .registers + t .bad
 
 abbrev pub tallyOf : List Page → Tally
 tallyOf pages = folded (λ t page. counted (kindOf page) t) none pages
 
 abbrev pub tallyLine : ℕ → Tally → List ℕ
-tallyLine pages t = line (decimal pages ∷ codes " pages: erased " ∷ decimal (t .erased) ∷ codes ", programmed " ∷ decimal (t .programmed) ∷ [])
+tallyLine pages t =
+    line (decimal pages ∷ codes " pages: erased " ∷ decimal (t .erased) ∷ codes ", data " ∷ decimal (t .versions) ∷ codes ", deletion " ∷ decimal (t .deletions) ∷ codes ", register " ∷ decimal (t .registers) ∷ codes ", bad " ∷ decimal (t .bad) ∷ [])
 
 abbrev pub shapeLine : List ℕ → ℕ → ℕ → ℕ → List ℕ
 shapeLine name blocks per leftOver =

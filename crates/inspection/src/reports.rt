@@ -6,50 +6,36 @@ ghost use lib.ListN.{length, getD};
 ghost use Rattle.std.specs.Of.String.{string-bytes};
 ghost use Rattle.std.specs.Options.{mapped};
 ghost use Rattle.std.specs.Vec.{made};
+ghost use Rattle.layout.specs.Page.{answer, pageMeaning};
 ghost use Rattle.inspection.specs.Arguments.{nameOf};
-ghost use Rattle.inspection.specs.Reports.{kindOf, described, shapeLine, pageLine, pageLines, none, counted, total, tallyOf, tallyLine, reportText};
+ghost use Rattle.inspection.specs.Descriptions.{described};
+ghost use Rattle.inspection.specs.Reports.{kindOf, shapeLine, pageLine, pageLines, none, counted, total, tallyOf, tallyLine, reportText};
 use crate::arguments::Make;
+use crate::descriptions::describe;
 use chip::Chip;
 use chip::PAGE_BYTES;
 use chip::PageNumber;
-use chip::is_erased;
+use layout::Cause;
+use layout::Page;
+use layout::check_page;
 use std::alloc::AllocError;
 use std::alloc::Global;
 
-// What a page is.
-#[derive(Clone, Copy)]
-enum PageKind {
-    Erased,
-    Programmed,
-}
-
-impl PageKind {
-    fn of(page: &[u8]) -> PageKind
-        ensures { λ r. ⌜ r ≡ kindOf (now (page .entry)) ⌝ }
-    {
-        if is_erased(page) {
-            PageKind::Erased
-        } else {
-            PageKind::Programmed
-        }
-    }
-
-    // What the line of such a page says of it; an erased page has no line.
-    fn describe(self, heap: Global) -> Result<Option<String>, AllocError>
-        ensures { λ r. ⌜ made r (λ words. mapped string-bytes words ≡ described self) ⌝ }
-    {
-        match self {
-            PageKind::Erased => Ok(None),
-            PageKind::Programmed => Ok(Some(String::from_str(heap, "programmed")?)),
-        }
-    }
+// What a page is, or why it is bad.
+fn check(page: &[u8; PAGE_BYTES]) -> Result<Page, Cause>
+    ensures { λ r. ⌜ answer r ≡ kindOf (now (page .entry)) ⌝ }
+{
+    check_page(page)
 }
 
 // How many pages of each kind there are.
 #[derive(Clone, Copy)]
 struct Tally {
     erased: u32,
-    programmed: u32,
+    versions: u32,
+    deletions: u32,
+    registers: u32,
+    bad: u32,
 }
 
 impl Tally {
@@ -58,18 +44,34 @@ impl Tally {
     {
         Tally {
             erased: 0,
-            programmed: 0,
+            versions: 0,
+            deletions: 0,
+            registers: 0,
+            bad: 0,
+        }
+    }
+
+    // Counts one good page more.
+    fn count_page(&mut self, page: Page)
+        requires { ⌜ total (now self) < 2 ^ 31 ⌝ }
+        ensures { λ _. ⌜ now (self .exit) ≡ counted (pageMeaning page) (now (self .entry)) ⌝ }
+    {
+        match page {
+            Page::Erased => self.erased += 1,
+            Page::Data(_) => self.versions += 1,
+            Page::Deletion(_) => self.deletions += 1,
+            Page::Register(_) => self.registers += 1,
         }
     }
 
     // Counts one page more.
-    fn count(&mut self, kind: PageKind)
+    fn count(&mut self, checked: Result<Page, Cause>)
         requires { ⌜ total (now self) < 2 ^ 31 ⌝ }
-        ensures { λ _. ⌜ now (self .exit) ≡ counted kind (now (self .entry)) ⌝ }
+        ensures { λ _. ⌜ now (self .exit) ≡ counted (answer checked) (now (self .entry)) ⌝ }
     {
-        match kind {
-            PageKind::Erased => self.erased += 1,
-            PageKind::Programmed => self.programmed += 1,
+        match checked {
+            Ok(page) => self.count_page(page),
+            Err(_) => self.bad += 1,
         }
     }
 }
@@ -95,11 +97,11 @@ fn shape_line(
 fn page_line<C: Chip>(
     heap: Global,
     number: PageNumber,
-    kind: PageKind,
+    checked: Result<Page, Cause>,
 ) -> Result<String, AllocError>
-    ensures { λ r. ⌜ made r (λ text. string-bytes text ≡ pageLine (C·Chip .per) (number .0) (described kind)) ⌝ }
+    ensures { λ r. ⌜ made r (λ text. string-bytes text ≡ pageLine (C·Chip .per) (number .0) (described (answer checked))) ⌝ }
 {
-    match kind.describe(heap)? {
+    match describe(heap, checked)? {
         Some(words) => {
             let page = number.0;
             let (block, place) = C::split(number);
@@ -114,10 +116,16 @@ fn page_line<C: Chip>(
 fn tally_line(heap: Global, pages: u32, tally: Tally) -> Result<String, AllocError>
     ensures { λ r. ⌜ made r (λ text. string-bytes text ≡ tallyLine pages tally) ⌝ }
 {
-    let Tally { erased, programmed } = tally;
+    let Tally {
+        erased,
+        versions,
+        deletions,
+        registers,
+        bad,
+    } = tally;
     format!(
         heap,
-        "{pages} pages: erased {erased}, programmed {programmed}\n"
+        "{pages} pages: erased {erased}, data {versions}, deletion {deletions}, register {registers}, bad {bad}\n"
     )
 }
 
@@ -146,10 +154,10 @@ fn push_page_lines<C: Chip>(heap: Global, text: &mut String, chip: &C) -> Result
     let mut tally = Tally::new();
     for index in 0..page_count(chip) {
         let number = PageNumber(index);
-        let kind = PageKind::of(&read_page(chip, number));
-        let line = page_line::<C>(heap, number, kind)?;
+        let checked = check(&read_page(chip, number));
+        let line = page_line::<C>(heap, number, checked)?;
         text.push_str(line.as_str())?;
-        tally.count(kind);
+        tally.count(checked);
     }
     Ok(tally)
 }

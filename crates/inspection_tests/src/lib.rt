@@ -93,7 +93,7 @@ mod tests {
         let text = report(rt.alloc(), Make::Nand, left, &chip)?;
         check(
             text.as_str()
-                == "nand chip: 0 blocks of 32 pages, 16895 bytes left over\n0 pages: erased 0, programmed 0\n",
+                == "nand chip: 0 blocks of 32 pages, 16895 bytes left over\n0 pages: erased 0, data 0, deletion 0, register 0, bad 0\n",
         )
     }
 
@@ -106,7 +106,7 @@ mod tests {
         let text = report(rt.alloc(), Make::Nor, left, &chip)?;
         check(
             text.as_str()
-                == "nor chip: 1 blocks of 8 pages, 7 bytes left over\n8 pages: erased 8, programmed 0\n",
+                == "nor chip: 1 blocks of 8 pages, 7 bytes left over\n8 pages: erased 8, data 0, deletion 0, register 0, bad 0\n",
         )
     }
 }

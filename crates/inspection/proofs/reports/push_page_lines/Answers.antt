@@ -20,7 +20,7 @@ loop-index-again g c =
     let inv = c .loop-index .inv in
     let line = c .as-str .ensures .value ∙ c .in-Continue-line .ensures tt in
     let text = pushed (c .as-str .result .now) refl (c .in-Continue-push-str .was tt) (c .push-str .ensures .bytes) in
-    (c .count .ensures ∙ tally-more pages i h (c .read-page .ensures) (c .of-kind .ensures) (inv .0), lines-more pages i h (c .read-page .ensures) (c .of-kind .ensures) (m .per) (string-bytes (c .loop-index .text)) line text (inv .1))
+    (c .count .ensures ∙ tally-more pages i h (c .read-page .ensures) (c .check-checked .ensures) (inv .0), lines-more pages i h (c .read-page .ensures) (c .check-checked .ensures) (m .per) (string-bytes (c .loop-index .text)) line text (inv .1))
 
 pub returns : need.returns
 returns g c =

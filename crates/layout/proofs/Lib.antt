@@ -1,0 +1,4 @@
+pub mod Words
+pub mod Pairs
+pub mod RegisterRead
+pub mod Tags

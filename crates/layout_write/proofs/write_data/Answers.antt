@@ -1,0 +1,19 @@
+use mathlib.Core.Path.{ap, _∙_}
+use mathlib.Core.List.{_++_}
+use native.Mathlib.Omega.{arith}
+use lib.ListN.{length}
+use Rattle.layout.specs.Page.{meaning}
+use Rattle.layout_write.proofs.Round.{read-again}
+use Rattle.layout_write.proofs.Writes.{both-written}
+use Rattle.layout_write.proofs.write_data.Needs as need
+
+pub returns : need.returns
+returns c =
+    let v = c .args .version in
+    let x = c .copy-from-slice .ensures .after in
+    let y = c .put-tag .ensures in
+    let w = both-written (c .copy-from-slice .last .self) (c .put-tag .last .tag) (c .args .page .now) (omega (arith, ap length x)) (omega arith) ∙ (λ i. x i ++ y i) in
+    record {
+      writes = w;
+      reads = ap meaning w ∙ read-again .data-page (v .sector .number) (v .birth .number) (c .args .bytes .now) (v .sector .last) (v .birth .first) (v .birth .last) (omega arith);
+    }
