@@ -1,0 +1,15 @@
+pub mod Reading
+pub mod Links
+pub mod Lists
+pub mod Limits
+pub mod Births
+pub mod Blocks
+pub mod Accepted
+pub mod Opened
+pub mod Room
+pub mod Cleaned
+pub mod Stale
+pub mod Registers
+pub mod Cut
+pub mod Reopened
+pub mod Added

@@ -1,0 +1,11 @@
+pub mod Sayings
+pub mod Added
+pub mod Linked
+pub mod Version
+pub mod Holding
+pub mod Register
+pub mod Youngest
+pub mod Counted
+pub mod Accepted
+pub mod Fresh
+pub mod Written

@@ -1,0 +1,4 @@
+pub mod Blocks
+pub mod Tells
+pub mod Rooms
+pub mod Purges
