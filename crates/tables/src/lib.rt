@@ -37,13 +37,13 @@ impl Index {
         }
     }
 
-    // Makes it another.
-    pub fn put(&mut self, page: usize, to: Record)
-        ensures records { λ _. ⌜ now (self .exit) .records ≡ set (now (self .entry) .records) page to ⌝ }
+    // Makes the record of a page another.
+    pub fn put(&mut self, at: usize, to: Record)
+        ensures records { λ _. ⌜ now (self .exit) .records ≡ set (now (self .entry) .records) at to ⌝ }
         ensures rest { λ _. ⌜ restOf (now (self .exit)) ≡ restOf (now (self .entry)) ⌝ }
     {
-        if page < MOST_PAGES {
-            self.records[page] = to;
+        if at < MOST_PAGES {
+            self.records[at] = to;
         }
     }
 }

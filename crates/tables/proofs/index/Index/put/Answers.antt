@@ -5,8 +5,8 @@ use lib.ListN.{length}
 use Rattle.std.proofs.shelf.Lists.{set-past}
 use Rattle.tables.proofs.index.Index.put.Needs as need
 
-pub returns-else-page-lt-MOST-PAGES : need.returns-else-page-lt-MOST-PAGES
-returns-else-page-lt-MOST-PAGES c =
+pub returns-else-at-lt-MOST-PAGES : need.returns-else-at-lt-MOST-PAGES
+returns-else-at-lt-MOST-PAGES c =
     let s = c .args .self .now in
-    let past : length (s .records) ≤ c .args .page = omega (arith, s .long) in
-    record { records = sym (set-past (s .records) (c .args .page) (c .args .to) past); rest = refl }
+    let past : length (s .records) ≤ c .args .at = omega (arith, s .long) in
+    record { records = sym (set-past (s .records) (c .args .at) (c .args .to) past); rest = refl }
