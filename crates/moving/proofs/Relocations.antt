@@ -23,7 +23,7 @@ use Rattle.moving.specs.Sound.{Shows, Sound, LastStay, staying, pageStays, Las
 use Rattle.moving.specs.Kept.{Kept, stale, allStale, staleIn, tally}
 use Rattle.moving.specs.Moves.{Answer, Outside, origin, shifted, Copyable, Copied, forgottenAt, relocatedAt, Relocated}
 use Rattle.moving.proofs.Places.{blocks-apart, block-inside, in-or-out, is-out, is-in, origin-out, origin-copied, origin-left, shifted-in, shifted-out}
-use Rattle.moving.proofs.Says.{erased-page, said-erased, said-erased-page, stays-said}
+use Rattle.moving.proofs.Says.{erased-page, said-erased-page, stays-said, spare-says}
 use Rattle.moving.proofs.Tallies.{tally-lost, count-said, at-in, in-at}
 use Rattle.moving.proofs.Erasures.{length-erased, erased-in, erased-out}
 
@@ -77,8 +77,8 @@ module _ (blocks per : ℕ) (pages : List Page) (ix : Index) (link lastBirth : �
   spare-outside : (i : ℕ) → i < per → Outside from per (to + i)
   spare-outside i l = elim apart [ inl a ↦ inr (omega arith) | inr a ↦ inl (omega arith) ]
 
-  spare-says : (i : ℕ) → i < per → said (getD pages (to + i) []) ≡ nothing
-  spare-says i l = said-erased (getD pages (to + i) []) (sound .spare-erased i l)
+  spare-is : (i : ℕ) → i < per → said (getD pages (to + i) []) ≡ nothing
+  spare-is = spare-says blocks per pages ix link lastBirth sound
 
   module _ (pages₁ : List Page) (ix₁ : Index) (d : Copied stay from to per pages ix pages₁ ix₁) (pages₂ : List Page) (ix₂ : Index)
       (ep : pages₂ ≡ pagesErased per blocks pages₁ victim) (er : (k : ℕ) → getD (ix₂ .records) k unused ≡ forgottenAt (ix₁ .records) from per k)
@@ -195,7 +195,7 @@ module _ (blocks per : ℕ) (pages : List Page) (ix : Index) (link lastBirth : �
         stands m w = elim (way m) [
           | inr e ↦ e
           | inl v ↦
-              let f : nothing ≡ version (w .shown) = sym (spare-says (v .0) (v .1)) ∙ ap (λ j. said (getD pages j [])) (sym (v .2)) ∙ w .says in
+              let f : nothing ≡ version (w .shown) = sym (spare-is (v .0) (v .1)) ∙ ap (λ j. said (getD pages j [])) (sym (v .2)) ∙ w .says in
               let z : _≡_ {A = ℕ} 0 1 = cc in absurd (omega arith)
         ]
 
@@ -252,7 +252,7 @@ module _ (blocks per : ℕ) (pages : List Page) (ix : Index) (link lastBirth : �
           | inr o ↦ elim (way k) [
             | inr e ↦ found k k l (ap said (page-out k o) ∙ ap (λ j. said (getD pages j [])) e)
             | inl w ↦
-                absurd (both-ways (test (said (getD pages k []))) (ap (λ j. test (said (getD pages j []))) (w .2) ∙ ap test (spare-says (w .0) (w .1))) t)
+                absurd (both-ways (test (said (getD pages k []))) (ap (λ j. test (said (getD pages j []))) (w .2) ∙ ap test (spare-is (w .0) (w .1))) t)
           ]
         ]
 
@@ -274,7 +274,7 @@ module _ (blocks per : ℕ) (pages : List Page) (ix : Index) (link lastBirth : �
               let a = source in
               let s : test (said (getD pages (from + w .0) [])) ≡ true = sym (stays-said blocks per pages ix link lastBirth sound limit (from + w .0) (omega arith)) ∙ w .3 in
               let f : said (getD pages₂ k []) ≡ said (getD pages (from + w .0) []) = ap said (page-out k o ∙ ap (λ j. getD pages j []) (w .4)) in
-              ap (λ j. stale test (said (getD pages j []))) (w .2) ∙ ap (stale test) (spare-says (w .0) i) ∙ sym (ap (stale test) f ∙ not-stale (said (getD pages (from + w .0) [])) s)
+              ap (λ j. stale test (said (getD pages j []))) (w .2) ∙ ap (stale test) (spare-is (w .0) i) ∙ sym (ap (stale test) f ∙ not-stale (said (getD pages (from + w .0) [])) s)
         ]
 
     pub relocated : (r : Answer) → r ≡ Ok tt → Relocated blocks per pages ix link lastBirth limit victim r pages₂ ix₂

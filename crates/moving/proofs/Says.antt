@@ -3,7 +3,7 @@ use mathlib.Core.Bool.{Bool, true, false, cond, _&&_}
 use mathlib.Core.List.{List, []}
 use mathlib.Core.Logic.{inl, inr}
 use mathlib.Core.Path.{_≡_, refl, ap, subst, _∙_}
-use Prim.Native.Nat.{ℕ, zero, suc, _<_}
+use Prim.Native.Nat.{ℕ, zero, suc, _+_, _*_, _<_}
 use native.Mathlib.Omega.{arith}
 use lib.Dec.{eqb}
 use lib.ListN.{length, getD, replicate, take, drop}
@@ -101,6 +101,9 @@ version-agrees x v r a e = let b : Agrees (version v) r = subst (λ y. Agrees y 
 module _ (blocks per : ℕ) (pages : List Page) (ix : Index) (link lastBirth : ℕ → ℕ) (sound : Sound blocks per pages ix link lastBirth) where
   pub stays-said : (limit k : ℕ) → k < length pages → pageStays ix limit k ≡ staying ix link limit (said (getD pages k []))
   stays-said limit k h = agree-stays (heldOf (ix .held)) (ix .newest) limit link (said (getD pages k [])) (getD (ix .records) k unused) (sound .agree k h) (λ v. sound .links k v h)
+
+  pub spare-says : (i : ℕ) → i < per → said (getD pages (ix .spare .0 * per + i) []) ≡ nothing
+  spare-says i l = said-erased (getD pages (ix .spare .0 * per + i) []) (sound .spare-erased i l)
 
   module _ (s : ℕ) (h : s < 2048) (inside : getD (ix .map) s 0 < length pages) where
     pub sector-born : 0 < lastBirth s

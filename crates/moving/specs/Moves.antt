@@ -83,3 +83,14 @@ pub record Relocated (blocks per : ℕ) (pages : List Page) (ix : Index) (link l
   pub lost : allStale (staying ix link limit) pages ≡ allStale (staying ix link limit) pages′ + staleIn (staying ix link limit) pages (victim * per) per
   pub spare : ix′ .spare .0 ≡ victim
   pub pages-are : (k : ℕ) → k < length pages → getD pages′ k [] ≡ relocatedAt per pages (pageStays ix limit) victim (ix .spare .0) k
+
+-- What copying the pages that are to stay does.
+abbrev pub Copies : ℕ → ℕ → List Page → Index → ℕ → ℕ → ℕ → Answer → List Page → Index → Type 0
+Copies blocks per pages ix limit from to r pages′ ix′ =
+    (link lastBirth : ℕ → ℕ) → Copyable blocks per pages ix link lastBirth limit from to → (r ≡ Ok tt) × Copied (pageStays ix limit) from to per pages ix pages′ ix′
+
+-- What relocating a block other than the spare one does.
+abbrev pub Relocates : ℕ → ℕ → List Page → Index → ℕ → ℕ → Answer → List Page → Index → Type 0
+Relocates blocks per pages ix limit victim r pages′ ix′ =
+    (link lastBirth : ℕ → ℕ) → Sound blocks per pages ix link lastBirth → LastStay ix link lastBirth limit → victim < blocks → (victim ≡ ix .spare .0 → ⊥) →
+    Relocated blocks per pages ix link lastBirth limit victim r pages′ ix′

@@ -1,15 +1,14 @@
 // Moving pages: what is to stay of a block goes to the spare block, and the block is erased.
 ghost use mathlib.Core.Bool.{_&&_};
 ghost use mathlib.Core.Path.{_≡_};
-ghost use Prim.Native.Nat.{ℕ, _+_, _*_, _<_, _≤_};
+ghost use Prim.Native.Nat.{ℕ, _+_, _<_, _≤_};
 ghost use lib.Dec.{leb, ltb};
 ghost use lib.ListN.{getD};
-ghost use Rattle.std.specs.declared.result.Result.the-variants.{Ok};
 ghost use Rattle.readings.specs.Versions.{any};
 ghost use Rattle.readings.specs.Links.{staysBy};
 ghost use Rattle.tables.specs.Records.{unused};
-ghost use Rattle.moving.specs.Sound.{Sound, LastStay, pageStays, lasting};
-ghost use Rattle.moving.specs.Moves.{redirected, Movable, Moved, Copyable, Copied, Relocated, forgottenAt};
+ghost use Rattle.moving.specs.Sound.{pageStays, lasting};
+ghost use Rattle.moving.specs.Moves.{redirected, Movable, Moved, Copies, Relocates, forgottenAt};
 use chip::BlockNumber;
 use chip::Chip;
 use chip::ChipFault;
@@ -99,7 +98,7 @@ fn copy_staying<C: Chip>(
     ensures kept { λ _. ⌜ C·Chip .kept (now (chip .exit)) ≡ C·Chip .kept (now (chip .entry)) ⌝ }
     ensures same { λ _. ⌜ C·Chip .blocks (now (chip .exit)) ≡ C·Chip .blocks (now (chip .entry)) ⌝ }
     ensures lasting { λ _. ⌜ lasting (now (ix .exit)) ≡ lasting (now (ix .entry)) ⌝ }
-    ensures copied { λ r. ⌜ ((link lastBirth : ℕ → ℕ) → Copyable (C·Chip .blocks (now (chip .entry))) (C·Chip .per) (C·Chip .pages (now (chip .entry))) (now (ix .entry)) link lastBirth limit from to → (r ≡ Ok tt) × Copied (pageStays (now (ix .entry)) limit) from to (C·Chip .per) (C·Chip .pages (now (chip .entry))) (now (ix .entry)) (C·Chip .pages (now (chip .exit))) (now (ix .exit))) ⌝ }
+    ensures copied { λ r. ⌜ Copies (C·Chip .blocks (now (chip .entry))) (C·Chip .per) (C·Chip .pages (now (chip .entry))) (now (ix .entry)) limit from to r (C·Chip .pages (now (chip .exit))) (now (ix .exit)) ⌝ }
 {
     let per = C::block_pages();
     for i in 0..per {
@@ -133,7 +132,7 @@ pub fn relocate<C: Chip>(
     ensures kept { λ _. ⌜ C·Chip .kept (now (chip .exit)) ≡ C·Chip .kept (now (chip .entry)) ⌝ }
     ensures same { λ _. ⌜ C·Chip .blocks (now (chip .exit)) ≡ C·Chip .blocks (now (chip .entry)) ⌝ }
     ensures lasting { λ _. ⌜ lasting (now (ix .exit)) ≡ lasting (now (ix .entry)) ⌝ }
-    ensures done { λ r. ⌜ ((link lastBirth : ℕ → ℕ) → Sound (C·Chip .blocks (now (chip .entry))) (C·Chip .per) (C·Chip .pages (now (chip .entry))) (now (ix .entry)) link lastBirth → LastStay (now (ix .entry)) link lastBirth limit → victim .0 < C·Chip .blocks (now (chip .entry)) → (victim .0 ≡ now (ix .entry) .spare .0 → ⊥) → Relocated (C·Chip .blocks (now (chip .entry))) (C·Chip .per) (C·Chip .pages (now (chip .entry))) (now (ix .entry)) link lastBirth limit (victim .0) r (C·Chip .pages (now (chip .exit))) (now (ix .exit))) ⌝ }
+    ensures done { λ r. ⌜ Relocates (C·Chip .blocks (now (chip .entry))) (C·Chip .per) (C·Chip .pages (now (chip .entry))) (now (ix .entry)) limit (victim .0) r (C·Chip .pages (now (chip .exit))) (now (ix .exit)) ⌝ }
 {
     let per = C::block_pages();
     let from = victim.0 as usize * per;

@@ -15,7 +15,7 @@ use Rattle.tables.specs.declared.index.Index.{Index}
 use Rattle.moving.specs.Sound.{Sound, pageStays}
 use Rattle.moving.specs.Moves.{Answer, origin, Relocated}
 use Rattle.moving.proofs.Places.{block-inside, in-or-out, is-in, is-out, origin-out, origin-copied, origin-left}
-use Rattle.moving.proofs.Says.{said-erased, said-erased-page, stays-said}
+use Rattle.moving.proofs.Says.{said-erased-page, stays-said, spare-says}
 use Rattle.room.specs.Choose.{isLater, pageLater}
 use Rattle.room.proofs.Tells.{later-said, stays-not-later}
 
@@ -29,15 +29,15 @@ module _ (blocks per : ℕ) (pages : List Page) (ix : Index) (link lastBirth : �
   inside : from + per ≤ length pages
   inside = block-inside per blocks b (length pages) (sound .whole) first
 
-  spare-says : (i : ℕ) → i < per → said (getD pages (to + i) []) ≡ nothing
-  spare-says i l = said-erased (getD pages (to + i) []) (sound .spare-erased i l)
+  spare-is : (i : ℕ) → i < per → said (getD pages (to + i) []) ≡ nothing
+  spare-is = spare-says blocks per pages ix link lastBirth sound
 
   -- A block with such a version is not the spare one.
   pub not-spare : (i : ℕ) → i < per → pageLater ix limit (from + i) ≡ true → b ≡ ix .spare .0 → ⊥
   not-spare i l t e =
       let q = inside in
       let f : from ≡ to = ap (λ x. x * per) e in
-      both-ways (isLater limit (said (getD pages (from + i) []))) (ap (λ x. isLater limit (said (getD pages (x + i) []))) f ∙ ap (isLater limit) (spare-says i l))
+      both-ways (isLater limit (said (getD pages (from + i) []))) (ap (λ x. isLater limit (said (getD pages (x + i) []))) f ∙ ap (isLater limit) (spare-is i l))
       (sym (later-said blocks per pages ix link lastBirth sound (from + i) (omega arith) limit) ∙ t)
 
   -- The block has none.
@@ -80,7 +80,7 @@ module _ (blocks per : ℕ) (pages : List Page) (ix : Index) (link lastBirth : �
                     ∙ stays-not-later (heldOf (ix .held)) (ix .newest) limit link (said (getD pages (from + x .0) [])) (sym (stays-said blocks per pages ix link lastBirth sound limit (from + x .0) (omega arith)) ∙ t)
                 | inr t ↦
                     ap (λ j. isLater limit (said (getD pages j []))) (ap (origin (pageStays ix limit) from to per) (x .2) ∙ origin-left (pageStays ix limit) from to per (x .0) (x .1) t)
-                    ∙ ap (isLater limit) (spare-says (x .0) (x .1))
+                    ∙ ap (isLater limit) (spare-is (x .0) (x .1))
               ]
             ]
       ]

@@ -19,7 +19,7 @@ use Rattle.moving.specs.Sound.{Sound, staying, pageStays}
 use Rattle.moving.specs.Kept.{stale, allStale, staleIn, tally}
 use Rattle.moving.specs.Moves.{Answer, Outside, Relocated}
 use Rattle.moving.proofs.Places.{blocks-apart, block-inside, is-out, origin-left}
-use Rattle.moving.proofs.Says.{said-erased, stays-said}
+use Rattle.moving.proofs.Says.{said-erased, stays-said, spare-says}
 use Rattle.moving.proofs.Tallies.{tally-zero, tally-some, tally-all, tally-ext, tally-nil, tally-parts, count-said}
 use Rattle.moving.proofs.Keeps.{kept-refl}
 use Rattle.room.specs.Choose.{pageFree, pageStale, staleOf, Chosen, Found, Fits, Full, Placed, Cleaned}
@@ -88,14 +88,14 @@ module _ (blocks per : ℕ) (pages : List Page) (ix : Index) (link lastBirth : �
       let i = block-inside per blocks b (length pages) (sound .whole) h in
       tally-ext (pageStale ix limit) (λ k. stale test (said (getD pages k []))) (b * per) per (λ k l m. stale-said blocks per pages ix link lastBirth sound k (omega arith) limit)
 
-  spare-says : (i : ℕ) → i < per → said (getD pages (low + i) []) ≡ nothing
-  spare-says i l = said-erased (getD pages (low + i) []) (sound .spare-erased i l)
+  spare-is : (i : ℕ) → i < per → said (getD pages (low + i) []) ≡ nothing
+  spare-is = spare-says blocks per pages ix link lastBirth sound
 
   pub spare-none : staleIn test pages low per ≡ 0
   spare-none =
       tally-nil (λ k. stale test (said (getD pages k []))) low per (λ k l m.
       let e : low + (k - low) ≡ k = omega arith in
-      ap (λ j. stale test (said (getD pages j []))) (sym e) ∙ ap (stale test) (spare-says (k - low) (omega arith)))
+      ap (λ j. stale test (said (getD pages j []))) (sym e) ∙ ap (stale test) (spare-is (k - low) (omega arith)))
 
   -- No block has more stale pages than the chosen one.
   pub chosen-most : (v : BlockNumber) → Chosen ix limit per blocks (Some v) → (b : ℕ) → b < blocks → staleIn test pages (b * per) per ≤ staleOf ix limit per (v .0)
@@ -188,5 +188,5 @@ module _ (blocks per : ℕ) (pages : List Page) (ix : Index) (link lastBirth : �
         ∙ rw (is-out from per (low + i) out) (ap (λ k. getD pages k []) (origin-left (pageStays ix limit) from low per i il goes)) in
         let long = done .kept .long in
         let counted = done .sound .counted in
-        let free : pageFree ix′ (low + i) ≡ true = free-said blocks per pages′ ix′ link lastBirth (done .sound) (low + i) (omega arith) ∙ ap isNothing (ap said page ∙ spare-says i il) in
+        let free : pageFree ix′ (low + i) ≡ true = free-said blocks per pages′ ix′ link lastBirth (done .sound) (low + i) (omega arith) ∙ ap isNothing (ap said page ∙ spare-is i il) in
         both-ways (pageFree ix′ (low + i)) (none (low + i) (omega arith) (subst (λ b. Outside (b * per) per (low + i)) (sym (done .spare)) out)) free

@@ -20,7 +20,7 @@ use Rattle.tables.specs.declared.index.Index.{Index}
 use Rattle.tables.specs.declared.types.Kind.{Kind}
 use Rattle.tables.specs.declared.types.Kind.the-variants as kind
 use Rattle.tables.specs.Records.{unused}
-use Rattle.moving.specs.Sound.{Sound, staying, byKind, pageStays}
+use Rattle.moving.specs.Sound.{Sound, LastStay, staying, byKind, pageStays}
 use Rattle.moving.specs.Kept.{Kept, allStale, tally, staleIn}
 use Rattle.moving.specs.Moves.{Answer, Outside, Relocated}
 
@@ -108,3 +108,21 @@ module _ (blocks per : ℕ) (pages : List Page) (ix : Index) (link lastBirth : �
     pub kept : Kept (staying ix link limit) pages pages′
     pub none-later : (k : ℕ) → k < length pages′ → isLater limit (said (getD pages′ k [])) ≡ false
     pub still : ((k : ℕ) → k < length pages → isLater limit (said (getD pages k [])) ≡ false) → (pages′ ≡ pages) × (ix′ ≡ ix)
+
+-- What making room does.
+abbrev pub MakesRoom : ℕ → ℕ → List Page → Index → ℕ → Result PageNumber ChipFault → List Page → Index → Type 0
+MakesRoom blocks per pages ix limit r pages′ ix′ =
+    (link lastBirth : ℕ → ℕ) → Sound blocks per pages ix link lastBirth → LastStay ix link lastBirth limit → Fits blocks per (staying ix link limit) pages →
+    Makes blocks per pages ix link lastBirth limit r pages′ ix′
+
+-- What cleaning a block does.
+abbrev pub CleansBlock : ℕ → ℕ → List Page → Index → ℕ → Result ℕ ChipFault → List Page → Index → Type 0
+CleansBlock blocks per pages ix limit r pages′ ix′ =
+    (link lastBirth : ℕ → ℕ) → Sound blocks per pages ix link lastBirth → LastStay ix link lastBirth limit →
+    Cleans blocks per pages ix link lastBirth limit r pages′ ix′
+
+-- What a purge does.
+abbrev pub Purges : ℕ → ℕ → List Page → Index → ℕ → Answer → List Page → Index → Type 0
+Purges blocks per pages ix limit r pages′ ix′ =
+    (link lastBirth : ℕ → ℕ) → Sound blocks per pages ix link lastBirth → LastStay ix link lastBirth limit →
+    Purged blocks per pages ix link lastBirth limit r pages′ ix′

@@ -1,13 +1,12 @@
 // Room for one more page: an erased page, and the block to clean where there is none.
 ghost use mathlib.Core.Bool.{true, false};
 ghost use mathlib.Core.Path.{_≡_};
-ghost use Prim.Native.Nat.{ℕ, _+_, _-_, _*_, _^_, _<_};
+ghost use Prim.Native.Nat.{ℕ, _+_, _^_, _<_};
 ghost use Rattle.std.specs.Orderings.{When};
 ghost use Rattle.std.specs.declared.option.Option.the-variants.{Some, None};
-ghost use Rattle.std.specs.declared.result.Result.the-variants.{Ok, Err};
-ghost use Rattle.moving.specs.Sound.{Sound, LastStay, staying, lasting};
+ghost use Rattle.moving.specs.Sound.{lasting};
 ghost use Rattle.moving.specs.Kept.{tally};
-ghost use Rattle.room.specs.Choose.{isFree, pageStale, Chosen, Found, pageLater, Fits, Makes, Cleans, Purged};
+ghost use Rattle.room.specs.Choose.{isFree, pageStale, Chosen, Found, pageLater, MakesRoom, CleansBlock, Purges};
 use chip::BlockNumber;
 use chip::Chip;
 use chip::ChipFault;
@@ -91,7 +90,7 @@ fn clean_for_page<C: Chip>(
     ensures kept { λ _. ⌜ C·Chip .kept (now (chip .exit)) ≡ C·Chip .kept (now (chip .entry)) ⌝ }
     ensures same { λ _. ⌜ C·Chip .blocks (now (chip .exit)) ≡ C·Chip .blocks (now (chip .entry)) ⌝ }
     ensures lasting { λ _. ⌜ lasting (now (ix .exit)) ≡ lasting (now (ix .entry)) ⌝ }
-    ensures makes { λ r. ⌜ (Found (now (ix .entry)) (C·Chip .per) None → (link lastBirth : ℕ → ℕ) → Sound (C·Chip .blocks (now (chip .entry))) (C·Chip .per) (C·Chip .pages (now (chip .entry))) (now (ix .entry)) link lastBirth → LastStay (now (ix .entry)) link lastBirth limit → Fits (C·Chip .blocks (now (chip .entry))) (C·Chip .per) (staying (now (ix .entry)) link limit) (C·Chip .pages (now (chip .entry))) → Makes (C·Chip .blocks (now (chip .entry))) (C·Chip .per) (C·Chip .pages (now (chip .entry))) (now (ix .entry)) link lastBirth limit r (C·Chip .pages (now (chip .exit))) (now (ix .exit))) ⌝ }
+    ensures makes { λ r. ⌜ (Found (now (ix .entry)) (C·Chip .per) None → MakesRoom (C·Chip .blocks (now (chip .entry))) (C·Chip .per) (C·Chip .pages (now (chip .entry))) (now (ix .entry)) limit r (C·Chip .pages (now (chip .exit))) (now (ix .exit))) ⌝ }
 {
     let Some(victim) = choose_victim(chip, ix, limit) else {
         return Err(ChipFault::NotErased);
@@ -109,7 +108,7 @@ pub fn make_room<C: Chip>(chip: &mut C, ix: &mut Index, limit: u32) -> Result<Pa
     ensures kept { λ _. ⌜ C·Chip .kept (now (chip .exit)) ≡ C·Chip .kept (now (chip .entry)) ⌝ }
     ensures same { λ _. ⌜ C·Chip .blocks (now (chip .exit)) ≡ C·Chip .blocks (now (chip .entry)) ⌝ }
     ensures lasting { λ _. ⌜ lasting (now (ix .exit)) ≡ lasting (now (ix .entry)) ⌝ }
-    ensures makes { λ r. ⌜ ((link lastBirth : ℕ → ℕ) → Sound (C·Chip .blocks (now (chip .entry))) (C·Chip .per) (C·Chip .pages (now (chip .entry))) (now (ix .entry)) link lastBirth → LastStay (now (ix .entry)) link lastBirth limit → Fits (C·Chip .blocks (now (chip .entry))) (C·Chip .per) (staying (now (ix .entry)) link limit) (C·Chip .pages (now (chip .entry))) → Makes (C·Chip .blocks (now (chip .entry))) (C·Chip .per) (C·Chip .pages (now (chip .entry))) (now (ix .entry)) link lastBirth limit r (C·Chip .pages (now (chip .exit))) (now (ix .exit))) ⌝ }
+    ensures makes { λ r. ⌜ MakesRoom (C·Chip .blocks (now (chip .entry))) (C·Chip .per) (C·Chip .pages (now (chip .entry))) (now (ix .entry)) limit r (C·Chip .pages (now (chip .exit))) (now (ix .exit)) ⌝ }
 {
     match find_erased::<C>(ix) {
         Some(page) => Ok(page),
@@ -127,7 +126,7 @@ fn clean_chosen<C: Chip>(
     ensures kept { λ _. ⌜ C·Chip .kept (now (chip .exit)) ≡ C·Chip .kept (now (chip .entry)) ⌝ }
     ensures same { λ _. ⌜ C·Chip .blocks (now (chip .exit)) ≡ C·Chip .blocks (now (chip .entry)) ⌝ }
     ensures lasting { λ _. ⌜ lasting (now (ix .exit)) ≡ lasting (now (ix .entry)) ⌝ }
-    ensures cleans { λ r. ⌜ (Chosen (now (ix .entry)) limit (C·Chip .per) (C·Chip .blocks (now (chip .entry))) (Some victim) → (link lastBirth : ℕ → ℕ) → Sound (C·Chip .blocks (now (chip .entry))) (C·Chip .per) (C·Chip .pages (now (chip .entry))) (now (ix .entry)) link lastBirth → LastStay (now (ix .entry)) link lastBirth limit → Cleans (C·Chip .blocks (now (chip .entry))) (C·Chip .per) (C·Chip .pages (now (chip .entry))) (now (ix .entry)) link lastBirth limit r (C·Chip .pages (now (chip .exit))) (now (ix .exit))) ⌝ }
+    ensures cleans { λ r. ⌜ (Chosen (now (ix .entry)) limit (C·Chip .per) (C·Chip .blocks (now (chip .entry))) (Some victim) → CleansBlock (C·Chip .blocks (now (chip .entry))) (C·Chip .per) (C·Chip .pages (now (chip .entry))) (now (ix .entry)) limit r (C·Chip .pages (now (chip .exit))) (now (ix .exit))) ⌝ }
 {
     let per = C::block_pages();
     let lost = count_stale(ix, victim.0 as usize * per, per, limit);
@@ -141,7 +140,7 @@ pub fn clean_block<C: Chip>(chip: &mut C, ix: &mut Index, limit: u32) -> Result<
     ensures kept { λ _. ⌜ C·Chip .kept (now (chip .exit)) ≡ C·Chip .kept (now (chip .entry)) ⌝ }
     ensures same { λ _. ⌜ C·Chip .blocks (now (chip .exit)) ≡ C·Chip .blocks (now (chip .entry)) ⌝ }
     ensures lasting { λ _. ⌜ lasting (now (ix .exit)) ≡ lasting (now (ix .entry)) ⌝ }
-    ensures cleans { λ r. ⌜ ((link lastBirth : ℕ → ℕ) → Sound (C·Chip .blocks (now (chip .entry))) (C·Chip .per) (C·Chip .pages (now (chip .entry))) (now (ix .entry)) link lastBirth → LastStay (now (ix .entry)) link lastBirth limit → Cleans (C·Chip .blocks (now (chip .entry))) (C·Chip .per) (C·Chip .pages (now (chip .entry))) (now (ix .entry)) link lastBirth limit r (C·Chip .pages (now (chip .exit))) (now (ix .exit))) ⌝ }
+    ensures cleans { λ r. ⌜ CleansBlock (C·Chip .blocks (now (chip .entry))) (C·Chip .per) (C·Chip .pages (now (chip .entry))) (now (ix .entry)) limit r (C·Chip .pages (now (chip .exit))) (now (ix .exit)) ⌝ }
 {
     match choose_victim(chip, ix, limit) {
         Some(victim) => clean_chosen(chip, ix, victim, limit),
@@ -178,7 +177,7 @@ pub fn purge<C: Chip>(chip: &mut C, ix: &mut Index, limit: u32) -> Result<(), Ch
     ensures kept { λ _. ⌜ C·Chip .kept (now (chip .exit)) ≡ C·Chip .kept (now (chip .entry)) ⌝ }
     ensures same { λ _. ⌜ C·Chip .blocks (now (chip .exit)) ≡ C·Chip .blocks (now (chip .entry)) ⌝ }
     ensures lasting { λ _. ⌜ lasting (now (ix .exit)) ≡ lasting (now (ix .entry)) ⌝ }
-    ensures purged { λ r. ⌜ ((link lastBirth : ℕ → ℕ) → Sound (C·Chip .blocks (now (chip .entry))) (C·Chip .per) (C·Chip .pages (now (chip .entry))) (now (ix .entry)) link lastBirth → LastStay (now (ix .entry)) link lastBirth limit → Purged (C·Chip .blocks (now (chip .entry))) (C·Chip .per) (C·Chip .pages (now (chip .entry))) (now (ix .entry)) link lastBirth limit r (C·Chip .pages (now (chip .exit))) (now (ix .exit))) ⌝ }
+    ensures purged { λ r. ⌜ Purges (C·Chip .blocks (now (chip .entry))) (C·Chip .per) (C·Chip .pages (now (chip .entry))) (now (ix .entry)) limit r (C·Chip .pages (now (chip .exit))) (now (ix .exit)) ⌝ }
 {
     let per = C::block_pages();
     let blocks = chip.size();
