@@ -1,0 +1,3 @@
+// Runs of cleaning on a chip of three blocks of two pages.
+#[cfg(test)]
+mod tests;
