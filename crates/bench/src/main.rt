@@ -1,4 +1,6 @@
 // Runs commands on a store: reads lines from standard input, and prints a row for each.
+#![tactic(auto)]
+
 use bench_calls::runs::{BenchFault, run_input};
 use std::io::Read;
 

@@ -1,4 +1,6 @@
 // Tests of the bench program's lines: what each line asks for, and the rows that are printed.
+#![tactic(auto)]
+
 #[cfg(test)]
 mod tests {
     use bench_lines::commands::{Command, parse_command};

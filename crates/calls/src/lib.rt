@@ -1,4 +1,6 @@
 // The calls on an open store, over its chip and what it has in memory.
+#![tactic(auto)]
+
 mod changes;
 mod checks;
 mod lookups;

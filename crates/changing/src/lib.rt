@@ -1,4 +1,6 @@
 // Changes of an open store: each leaves it open, with a reading that is known.
+#![tactic(auto)]
+
 mod back;
 mod format;
 

@@ -3,6 +3,8 @@
 // Every call is total. What it answers, what it leaves in the buffer and which pages the chip has
 // afterwards equal definitions over the chip's pages and the arguments, and these definitions are
 // the same for every chip.
+#![tactic(auto)]
+
 ghost use Rattle.std.specs.Prelude.{◌≡◌, ℕ, List, length};
 ghost use Rattle.chip.specs.Pages.{Page, Shape, is_erased, fault_number, number, read_number, buffer_read, program_number, pages_programmed, erase_number, pages_erased, split_of};
 

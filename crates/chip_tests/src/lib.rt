@@ -1,3 +1,5 @@
 // Examples of what the chips do, run over the makes and the layers.
+#![tactic(auto)]
+
 #[cfg(test)]
 mod tests;

@@ -1,5 +1,7 @@
 // The law over every sequence of calls that do what their contracts say, for callers who make the
 // calls themselves.
+#![tactic(auto)]
+
 ghost use Rattle.history.specs.History.{EveryHistoryIsLawful, EveryRevertIsTheEquation, EveryWorkedCaseHolds};
 
 // Whatever calls are made on a store since a format, on any chip, in any order: their answers are

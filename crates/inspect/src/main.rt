@@ -1,4 +1,6 @@
 // Says what a chip image holds: inspect nand|nor FILE.
+#![tactic(auto)]
+
 use chip::Chip;
 use inspection::arguments::{Make, Request, USAGE, parse_arguments};
 use inspection::images::{left_over, words_of};

@@ -1,4 +1,6 @@
 // What the program `inspect` does between reading a chip image and printing.
+#![tactic(auto)]
+
 pub mod arguments;
 pub mod descriptions;
 pub mod images;

@@ -1,4 +1,6 @@
 // Tests of the check of the arguments, of the words of an image and of reports.
+#![tactic(auto)]
+
 #[cfg(test)]
 mod tests {
     use inspection::arguments::{Make, Request, UsageFault, parse_arguments};

@@ -1,4 +1,6 @@
 // What cleaning a store means for its reading: what may go, and what must stay.
+#![tactic(auto)]
+
 ghost use Rattle.keeping.specs.Added.{AddedIsAccepted};
 ghost use Rattle.keeping.specs.Cleaned.{CleaningKeeps, StayingKept};
 ghost use Rattle.keeping.specs.Cut.{BackReads, CutGoesOn, CutIsNeed, CutReads, RevertReads};

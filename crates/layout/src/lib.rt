@@ -1,4 +1,6 @@
 // What a page means, read from its 528 bytes.
+#![tactic(auto)]
+
 pub mod pages;
 pub mod parts;
 

@@ -1,4 +1,5 @@
 // Tests of the page layout.
+#![tactic(auto)]
 
 #[cfg(test)]
 mod tests {

@@ -1,4 +1,6 @@
 // What a page can mean, in types that hold no other value.
+#![tactic(auto)]
+
 pub mod types;
 
 ghost use Rattle.std.specs.Prelude.{◌≡◌};

@@ -1,4 +1,6 @@
 // The law over all lists of calls, on the readings and the rules of the calls.
+#![tactic(auto)]
+
 ghost use Rattle.line.specs.Runs.{Law};
 ghost use Rattle.line.specs.Cases.{Cases};
 ghost use Rattle.line.specs.Equation.{RevertEquation};

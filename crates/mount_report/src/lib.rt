@@ -1,4 +1,6 @@
 // What mount makes of a chip, in lines, and all that the program `inspect` prints.
+#![tactic(auto)]
+
 mod lists;
 mod mounts;
 mod opened;

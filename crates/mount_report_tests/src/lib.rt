@@ -1,4 +1,6 @@
 // Tests of what is said of a mount.
+#![tactic(auto)]
+
 #[cfg(test)]
 mod tests {
     use chip::SectorNumber;

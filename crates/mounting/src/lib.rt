@@ -1,4 +1,6 @@
 // Mounts a chip: from its pages to the tables of an open store.
+#![tactic(auto)]
+
 ghost use Rattle.std.specs.Prelude.{◌≡◌, ◌≤◌, length, IfOk, if◌then◌else◌};
 ghost use Rattle.readings.specs.Sayings.{sayings};
 ghost use Rattle.readings.specs.Mount.{plain, is_store, mount_verdict};

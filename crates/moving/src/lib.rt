@@ -1,4 +1,6 @@
 // Moving pages: what is to stay of a block goes to the spare block, and the block is erased.
+#![tactic(auto)]
+
 ghost use Rattle.std.specs.Prelude.{◌≡◌, ℕ, ◌+◌, ◌<◌, ◌≤◌, ◌&&◌, nat_le, nat_lt, slice_index_or};
 ghost use Rattle.readings.specs.Versions.{any};
 ghost use Rattle.readings.specs.Links.{stays_by};

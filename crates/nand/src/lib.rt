@@ -1,4 +1,6 @@
 // A NAND chip over lent bytes: 32 pages to a block, page after page.
+#![tactic(auto)]
+
 ghost use Rattle.std.specs.Prelude.{◌≡◌, ℕ, ◌+◌, ◌*◌, ◌≤◌, List, length, take, drop};
 ghost use Rattle.std.specs.Borrow.{GName};
 ghost use Rattle.chip.specs.Pages.{is_erased};

@@ -1,4 +1,6 @@
 // A NOR chip over lent 16-bit words: 8 pages to a block, the low byte of a word first.
+#![tactic(auto)]
+
 ghost use Rattle.std.specs.Prelude.{◌≡◌, ℕ, ◌+◌, ◌*◌, ◌<◌, true, List, length, drop, slice_index};
 ghost use Rattle.std.specs.Borrow.{GName};
 ghost use Rattle.chip.specs.Pages.{is_erased};

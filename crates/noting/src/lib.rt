@@ -1,4 +1,6 @@
 // What an open store remembers, once a page was programmed.
+#![tactic(auto)]
+
 pub mod counts;
 pub mod format;
 pub mod held;

@@ -1,4 +1,6 @@
 // Some blocks of a chip, as a chip of their own: each call comes down to one call of the chip below.
+#![tactic(auto)]
+
 ghost use Rattle.std.specs.Prelude.{◌≡◌, ℕ, ◌*◌, min, List, length, take, drop, MatchResult};
 ghost use Rattle.chip.specs.Pages.{Page};
 ghost use Rattle.partition.specs.Part.{existing, part_blocks, part_pages, PartFrame, part_frame, PageBelow, BlockBelow, Lacking};

@@ -1,4 +1,6 @@
 // What the pages of a chip read as, and what each call makes of it.
+#![tactic(auto)]
+
 ghost use Rattle.readings.specs.Sorted.{PagesRead};
 
 // The reading does not depend on the order of pages, on pages that are needed no more, or on how

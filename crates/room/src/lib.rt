@@ -1,4 +1,6 @@
 // Room for one more page: an erased page, and the block to clean where there is none.
+#![tactic(auto)]
+
 ghost use Rattle.std.specs.Prelude.{◌≡◌, ℕ, ◌+◌, ◌^◌, ◌<◌, true, false, Some, None, MatchBool};
 ghost use Rattle.moving.specs.Sound.{lasting};
 ghost use Rattle.moving.specs.Kept.{tally};

@@ -1,3 +1,5 @@
 // Runs of cleaning on a chip of three blocks of two pages.
+#![tactic(auto)]
+
 #[cfg(test)]
 mod tests;

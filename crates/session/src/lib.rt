@@ -1,5 +1,7 @@
 // A session: any chip is formatted, a list of calls is made on the store, and what was answered is
 // given back. All memory is taken before the first call.
+#![tactic(auto)]
+
 mod blank;
 mod calling;
 mod hand;

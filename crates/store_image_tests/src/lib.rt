@@ -1,4 +1,6 @@
 // Tests of the store on crafted chips, and of what its calls cost.
+#![tactic(auto)]
+
 #[cfg(test)]
 mod cost_tests;
 #[cfg(test)]

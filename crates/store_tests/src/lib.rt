@@ -1,4 +1,6 @@
 // Runs of the store's calls on proved chips, with the answers and contents that they must give.
+#![tactic(auto)]
+
 #[cfg(test)]
 mod buffer_tests;
 #[cfg(test)]

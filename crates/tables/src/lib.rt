@@ -1,4 +1,6 @@
 // The tables of an open store: a record for each page, and the page of each sector.
+#![tactic(auto)]
+
 ghost use Rattle.std.specs.Prelude.{◌≡◌, ◌≤◌, length, slice_index_or, slice_set};
 ghost use Rattle.tables.specs.Records.{unused, rest_of};
 

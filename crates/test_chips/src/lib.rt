@@ -1,4 +1,6 @@
 // Chips for tests.
+#![tactic(auto)]
+
 mod counting;
 mod row;
 mod tiny;

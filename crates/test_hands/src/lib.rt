@@ -1,5 +1,7 @@
 // For tests of the store: its calls in plain numbers, where what is granted is a value and a refusal
 // its number, and pages for crafted chips.
+#![tactic(auto)]
+
 mod pages;
 mod steps;
 
