@@ -6,7 +6,7 @@ use Rattle.layout.proofs.copy_held.Goals as goal
 pub loop-i-preserved : goal.loop-i-preserved
 loop-i-preserved c = (
   length-set c.loop-i.numbers c.loop-i.i _ ∙ c.loop-i.invariant.0,
-  copied_more c.args.bytes.now c.loop-i.numbers c.loop-i.i _ (omega arith) (omega arith) c.u32-at.ensures c.loop-i.invariant.1,
+  copied_more c.args.bytes.now c.loop-i.numbers c.loop-i.i _ (omega arith) (omega arith) c.u32_at.ensures c.loop-i.invariant.1,
 )
 
 pub returns : goal.returns

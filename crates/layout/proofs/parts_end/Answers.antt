@@ -10,15 +10,15 @@ returns-then-offset-at c =
     let p = c.args.page.now in
     sym
     (⊎_elim
-    (pair_moved ks p c.loop-i.i c.loop-i.at _ _ _ c.loop-i-test.true c.u16-at-offset.ensures c.u16-at-length.ensures c.fits-can-be.ensures)
-    (λ w. pair_long ks p c.loop-i.i c.loop-i.at _ _ _ c.loop-i-test.true c.u16-at-offset.ensures c.u16-at-length.ensures c.fits-can-be.ensures w.1)
+    (pair_moved ks p c.loop-i.i c.loop-i.at _ _ _ c.loop-i-test.true c.u16_at-offset.ensures c.u16_at-length.ensures c.fits-can_be.ensures)
+    (λ w. pair_long ks p c.loop-i.i c.loop-i.at _ _ _ c.loop-i-test.true c.u16_at-offset.ensures c.u16_at-length.ensures c.fits-can_be.ensures w.1)
     c.then-offset-at.either)
     ∙ c.loop-i.invariant.1
 
 pub loop-i-preserved : goal.loop-i-preserved
 loop-i-preserved c = (
   omega arith,
-  pair_good c.args.kinds.now c.args.page.now c.loop-i.i c.loop-i.at _ _ _ c.loop-i-test.true c.u16-at-offset.ensures c.u16-at-length.ensures c.fits-can-be.ensures c.if-offset-at.false c.if-not-can-be.false
+  pair_good c.args.kinds.now c.args.page.now c.loop-i.i c.loop-i.at _ _ _ c.loop-i-test.true c.u16_at-offset.ensures c.u16_at-length.ensures c.fits-can_be.ensures c.if-offset-at.false c.if-not-can_be.false
       ∙ c.loop-i.invariant.1,
 )
 

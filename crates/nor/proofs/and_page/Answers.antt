@@ -11,7 +11,7 @@ loop-i-preserved c =
     let b = c.args.block in
     let p = c.args.place in
     let bytes = c.args.bytes.now in
-    ap (λ w. set c.loop-i.image w (bit_and (get_or c.loop-i.image w 0) c.from-le-bytes-pair.result)) c.word-at.ensures ∙ ap (and_into c.loop-i.image (word_at b p i)) c.from-le-bytes-pair.ensures ∙ ap (λ z. and_into z (word_at b p i) (pair_of bytes i)) c.loop-i.invariant ∙ ap (anded ws b p bytes) (sym (add-one i))
+    ap (λ w. set c.loop-i.image w (bit_and (get_or c.loop-i.image w 0) c.from_le_bytes-pair.result)) c.word_at.ensures ∙ ap (and_into c.loop-i.image (word_at b p i)) c.from_le_bytes-pair.ensures ∙ ap (λ z. and_into z (word_at b p i) (pair_of bytes i)) c.loop-i.invariant ∙ ap (anded ws b p bytes) (sym (add-one i))
 
 pub returns : goal.returns
 unfolding programmed

@@ -6,4 +6,4 @@ pub returns : goal.returns
 returns c =
     let at = c.args.at in
     let e : at + 528 - at ≡ 528 = omega arith in
-    c.is-erased.ensures ∙ ap (λ n. is_erased (take n (drop at c.args.self.now.image.now))) e
+    c.is_erased.ensures ∙ ap (λ n. is_erased (take n (drop at c.args.self.now.image.now))) e

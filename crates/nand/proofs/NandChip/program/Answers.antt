@@ -13,15 +13,15 @@ returns-then-block-size c =
     let w = program_no_page (nand_pages bs) c.args.page.0 c.args.bytes.now (omega (arith, length_nand bs)) in
     record { kept = refl; same = refl; answer = w.0; after = w.1 }
 
-pub returns-then-bytes-ne-PAGE-BYTES : goal.returns-then-bytes-ne-PAGE-BYTES
-returns-then-bytes-ne-PAGE-BYTES c =
+pub returns-then-bytes-ne-PAGE_BYTES : goal.returns-then-bytes-ne-PAGE_BYTES
+returns-then-bytes-ne-PAGE_BYTES c =
     let bs = c.args.self.now.image.now in
     let b = ap (λ z. z.0.0) c.split-place.ensures in
-    let w = program_length (nand_pages bs) c.args.page.0 c.args.bytes.now (omega (arith, length_nand bs)) c.if-bytes-ne-PAGE-BYTES.true in
+    let w = program_length (nand_pages bs) c.args.page.0 c.args.bytes.now (omega (arith, length_nand bs)) c.if-bytes-ne-PAGE_BYTES.true in
     record { kept = refl; same = refl; answer = w.0; after = w.1 }
 
-pub returns-then-not-is-erased-at : goal.returns-then-not-is-erased-at
-returns-then-not-is-erased-at c =
+pub returns-then-not-is_erased_at : goal.returns-then-not-is_erased_at
+returns-then-not-is_erased_at c =
     let bs = c.args.self.now.image.now in
     let p = c.args.page.0 in
     let s = c.split-place.result in
@@ -29,8 +29,8 @@ returns-then-not-is-erased-at c =
     let q = ap (λ z. z.1) c.split-place.ensures in
     let h : p < nand_blocks bs * 32 = omega arith in
     let at : s.0.0 * 16896 + s.1 * 528 ≡ p * 528 = omega arith in
-    let e : is_erased (get_or (nand_pages bs) p []) ≡ false = ap is_erased (get_or_nand bs p h) ∙ ap (λ i. is_erased (take 528 (drop i bs))) (sym at) ∙ sym c.is-erased-at.ensures ∙ c.if-not-is-erased-at.true in
-    let w = program_not_erased (nand_pages bs) p c.args.bytes.now (omega (arith, length_nand bs)) c.if-bytes-ne-PAGE-BYTES.false e in
+    let e : is_erased (get_or (nand_pages bs) p []) ≡ false = ap is_erased (get_or_nand bs p h) ∙ ap (λ i. is_erased (take 528 (drop i bs))) (sym at) ∙ sym c.is_erased_at.ensures ∙ c.if-not-is_erased_at.true in
+    let w = program_not_erased (nand_pages bs) p c.args.bytes.now (omega (arith, length_nand bs)) c.if-bytes-ne-PAGE_BYTES.false e in
     record { kept = refl; same = refl; answer = w.0; after = w.1 }
 
 pub returns : goal.returns
@@ -43,9 +43,9 @@ returns c =
     let q = ap (λ z. z.1) c.split-place.ensures in
     let h : p < nand_blocks bs * 32 = omega arith in
     let at : s.0.0 * 16896 + s.1 * 528 ≡ p * 528 = omega arith in
-    let e : is_erased (get_or (nand_pages bs) p []) ≡ true = ap is_erased (get_or_nand bs p h) ∙ ap (λ i. is_erased (take 528 (drop i bs))) (sym at) ∙ sym c.is-erased-at.ensures ∙ c.if-not-is-erased-at.false in
-    let ys = c.copy-from-slice.new.self in
-    let after = c.copy-from-slice.ensures.after in
-    let len : length ys ≡ 528 = ap length after ∙ c.if-bytes-ne-PAGE-BYTES.false in
-    let w = program_granted (nand_pages bs) p c.args.bytes.now (omega (arith, length_nand bs)) c.if-bytes-ne-PAGE-BYTES.false e _ (set_nand bs ys p a at h len ∙ ap (set (nand_pages bs) p) after) in
+    let e : is_erased (get_or (nand_pages bs) p []) ≡ true = ap is_erased (get_or_nand bs p h) ∙ ap (λ i. is_erased (take 528 (drop i bs))) (sym at) ∙ sym c.is_erased_at.ensures ∙ c.if-not-is_erased_at.false in
+    let ys = c.copy_from_slice.new.self in
+    let after = c.copy_from_slice.ensures.after in
+    let len : length ys ≡ 528 = ap length after ∙ c.if-bytes-ne-PAGE_BYTES.false in
+    let w = program_granted (nand_pages bs) p c.args.bytes.now (omega (arith, length_nand bs)) c.if-bytes-ne-PAGE_BYTES.false e _ (set_nand bs ys p a at h len ∙ ap (set (nand_pages bs) p) after) in
     record { kept = kept_nand c.args.self.now.image.ghost_name a (a + 528 - a) bs ys (omega (arith, blocks_fit bs)) (omega arith); same = same_blocks a (a + 528 - a) bs ys (omega (arith, blocks_fit bs)) (omega arith); answer = w.0; after = w.1 }

@@ -12,11 +12,11 @@ returns-then-block-size c =
     let w = read_no_page (nand_pages bs) c.args.page.0 c.args.buffer.now (omega (arith, length_nand bs)) in
     record { answer = w.0; buffer = w.1 }
 
-pub returns-then-buffer-ne-PAGE-BYTES : goal.returns-then-buffer-ne-PAGE-BYTES
-returns-then-buffer-ne-PAGE-BYTES c =
+pub returns-then-buffer-ne-PAGE_BYTES : goal.returns-then-buffer-ne-PAGE_BYTES
+returns-then-buffer-ne-PAGE_BYTES c =
     let bs = c.args.self.now.image.now in
     let b = ap (λ z. z.0.0) c.split-place.ensures in
-    let w = read_length (nand_pages bs) c.args.page.0 c.args.buffer.now (omega (arith, length_nand bs)) c.if-buffer-ne-PAGE-BYTES.true in
+    let w = read_length (nand_pages bs) c.args.page.0 c.args.buffer.now (omega (arith, length_nand bs)) c.if-buffer-ne-PAGE_BYTES.true in
     record { answer = w.0; buffer = w.1 }
 
 pub returns : goal.returns
@@ -28,5 +28,5 @@ returns c =
     let q = ap (λ z. z.1) c.split-place.ensures in
     let h : p < nand_blocks bs * 32 = omega arith in
     let at : s.0.0 * 16896 + s.1 * 528 ≡ p * 528 = omega arith in
-    let w = read_granted (nand_pages bs) p c.args.buffer.now (omega (arith, length_nand bs)) c.if-buffer-ne-PAGE-BYTES.false _ (c.copy-from-slice.ensures.after ∙ sym (read_nand bs p (s.0.0 * 16896 + s.1 * 528) at h)) in
+    let w = read_granted (nand_pages bs) p c.args.buffer.now (omega (arith, length_nand bs)) c.if-buffer-ne-PAGE_BYTES.false _ (c.copy_from_slice.ensures.after ∙ sym (read_nand bs p (s.0.0 * 16896 + s.1 * 528) at h)) in
     record { answer = w.0; buffer = w.1 }

@@ -9,9 +9,9 @@ loop-i-preserved c =
     let p = c.args.place in
     let i = c.loop-i.i in
     let inv = c.loop-i.invariant in
-    let w = c.word-at.ensures ∙ sym (word_of_lem b p i (omega arith)) in
-    let low = ap (λ r. get_or r 0 0) c.to-le-bytes.ensures ∙ ap (λ k. get_or ws k 0 % 256) w in
-    let high = ap (λ r. get_or r 1 0) c.to-le-bytes.ensures ∙ ap (λ k. get_or ws k 0 / 256 % 256) w in
+    let w = c.word_at.ensures ∙ sym (word_of_lem b p i (omega arith)) in
+    let low = ap (λ r. get_or r 0 0) c.to_le_bytes.ensures ∙ ap (λ k. get_or ws k 0 % 256) w in
+    let high = ap (λ r. get_or r 1 0) c.to_le_bytes.ensures ∙ ap (λ k. get_or ws k 0 / 256 % 256) w in
     (simp length-set inv.0, copy_more ws c.loop-i.buffer (b * 8 + p) i _ _ (omega (arith, inv.0)) low high inv.1)
 
 pub returns : goal.returns
