@@ -19,8 +19,8 @@ put-requires c = omega (arith, ap length c.pair.ensures)
 pub loop-i-init : goal.loop-i-init
 loop-i-init c = (omega arith, omega arith, refl)
 
-pub overflow-add-at : goal.overflow-add-at
-overflow-add-at c =
+pub overflow_add-at : goal.overflow_add-at
+overflow_add-at c =
     let rs = c.args.parts.now in
     let i = c.loop-i.i in
     let s = size_fits_lem (contents rs) i (omega (arith, length_contents rs)) in

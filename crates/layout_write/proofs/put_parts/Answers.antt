@@ -14,8 +14,8 @@ put-requires c =
     let e = ap length (lent rs i (omega arith)) in
     omega (arith, s, e)
 
-pub overflow-add-at : goal.overflow-add-at
-overflow-add-at c =
+pub overflow_add-at : goal.overflow_add-at
+overflow_add-at c =
     let rs = c.args.parts.now in
     let i = c.loop-i.i in
     let s = size_fits_lem (contents rs) i (omega (arith, length_contents rs)) in

@@ -8,6 +8,6 @@ pub returns : goal.returns
 returns c =
     let rs = c.args.parts.now in
     let xs = contents rs in
-    c.put-parts.ensures
-    ∙ ap (λ o. paste o (4 * length rs) (whole xs) (length (whole xs))) c.put-pairs.ensures
+    c.put_parts.ensures
+    ∙ ap (λ o. paste o (4 * length rs) (whole xs) (length (whole xs))) c.put_pairs.ensures
     ∙ register_written c.clear.new.bytes xs (length rs) (sym (length_contents rs)) c.clear.ensures

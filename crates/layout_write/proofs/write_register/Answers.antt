@@ -10,14 +10,14 @@ use Rattle.layout_write.proofs.write_register.Goals as goal
 pub returns : goal.returns
 returns c =
     let v = c.args.register.now in
-    let x = c.put-both.ensures in
-    let y = c.put-tag.ensures in
+    let x = c.put_both.ensures in
+    let y = c.put_tag.ensures in
     let n = 4 * v.held.count in
     let z : n - 0 ≡ n = omega arith in
-    let h = ap (λ m. take m c.held-bytes-held.result) z ∙ c.held-bytes-held.ensures in
-    let l = c.as-slice.ensures in
+    let h = ap (λ m. take m c.held_bytes-held.result) z ∙ c.held_bytes-held.ensures in
+    let l = c.as_slice.ensures in
     let w =
-    both_written c.put-both.new.out c.put-tag.new.tag c.args.page.now (omega arith) (omega arith)
+    both_written c.put_both.new.out c.put_tag.new.tag c.args.page.now (omega arith) (omega arith)
     ∙ (λ i. x i ++ y i)
     ∙ (λ i. register_data (h i ∷ l i ∷ []) ++ tag_bytes 3 65535 v.birth.number) in
     let lh = length-take-le v.held.count v.held.numbers (omega arith) in
