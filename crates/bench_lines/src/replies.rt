@@ -35,8 +35,8 @@ pub fn row(heap: Global, command: Command, reply: Reply) -> Result<String, Alloc
     let letter = letter_of(command);
     let number = reply.number;
     match reply.value {
-        Some(value) => format!(heap, "{letter} {number} {value}\n"),
-        None => format!(heap, "{letter} {number} -\n"),
+        Some(value) => format!(in heap; "{letter} {number} {value}\n"),
+        None => format!(in heap; "{letter} {number} -\n"),
     }
 }
 

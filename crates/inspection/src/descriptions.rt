@@ -14,7 +14,7 @@ fn version_text(heap: Global, kind: &str, version: Version) -> Result<String, Al
 {
     let sector = version.sector.number;
     let birth = version.birth.number;
-    format!(heap, "{kind}, sector {sector}, birth {birth}")
+    format!(in heap; "{kind}, sector {sector}, birth {birth}")
 }
 
 // Appends each number with a space before it.
@@ -22,7 +22,7 @@ fn push_spaced(heap: Global, text: &mut String, numbers: &[u32]) -> Result<(), A
     ensures { OnOk result (string_bytes text.new ≡ string_bytes text.old ++ spaced numbers.now) }
 {
     for n in numbers {
-        let part = format!(heap, " {n}")?;
+        let part = format!(in heap; " {n}")?;
         text.push_str(part.as_str())?;
     }
     Ok(())
@@ -36,7 +36,7 @@ pub fn held_text(heap: Global, held: &[u32]) -> Result<String, AllocError>
         return String::from_str(heap, "none");
     }
     let first = held[0];
-    let mut text = format!(heap, "{first}")?;
+    let mut text = format!(in heap; "{first}")?;
     push_spaced(heap, &mut text, &held[1..])?;
     Ok(text)
 }
@@ -64,7 +64,7 @@ fn hex_text(heap: Global, byte: u8) -> Result<String, AllocError>
 {
     let high = hex_digit(byte / 16);
     let low = hex_digit(byte % 16);
-    let text = format!(heap, "\\x{high}{low}")?;
+    let text = format!(in heap; "\\x{high}{low}")?;
     Ok(text)
 }
 
@@ -104,7 +104,7 @@ fn register_text(heap: Global, register: Register) -> Result<String, AllocError>
     let birth = register.birth.number;
     let held = held_text(heap, register.held.as_slice())?;
     let label = label_text(heap, register.label.as_slice())?;
-    let text = format!(heap, "register, birth {birth}, held {held}, label {label}")?;
+    let text = format!(in heap; "register, birth {birth}, held {held}, label {label}")?;
     Ok(text)
 }
 
@@ -123,7 +123,7 @@ fn cause_text(heap: Global, cause: Cause) -> Result<String, AllocError>
     ensures { IfOk result (λ words. string_bytes words ≡ cause_text (cause_number cause)) }
 {
     let number = cause.number();
-    format!(heap, "bad, cause {number}")
+    format!(in heap; "bad, cause {number}")
 }
 
 // What the line of a page says of it, by the check of the page; an erased page has no line.

@@ -78,8 +78,7 @@ fn shape_line(
     ensures { IfOk result (λ text. string_bytes text ≡ shape_line (name_of make) blocks block_pages left_over) }
 {
     let name = make.name();
-    format!(
-        heap,
+    format!(in heap;
         "{name} chip: {blocks} blocks of {block_pages} pages, {left_over} bytes left over\n"
     )
 }
@@ -97,7 +96,7 @@ fn page_line<C: Chip>(
             let page = number.0;
             let (block, place) = C::split(number);
             let block = block.0;
-            format!(heap, "page {page}, block {block}, place {place}: {words}\n")
+            format!(in heap; "page {page}, block {block}, place {place}: {words}\n")
         }
         None => Ok(String::new(heap)),
     }
@@ -114,8 +113,7 @@ fn tally_line(heap: Global, pages: u32, tally: Tally) -> Result<String, AllocErr
         registers,
         bad,
     } = tally;
-    format!(
-        heap,
+    format!(in heap;
         "{pages} pages: erased {erased}, data {versions}, deletion {deletions}, register {registers}, bad {bad}\n"
     )
 }
@@ -179,7 +177,8 @@ pub fn report_with<C: Chip>(
 ) -> Result<String, AllocError>
     ensures { IfOk result (λ text. string_bytes text ≡ report_text_with (name_of make) (C.Chip.blocks chip.now) C.Chip.per left_over (C.Chip.pages chip.now) middle.now) }
 {
-    let mut text = shape_line(heap, make, chip.size(), C::block_pages(), left_over)?;
+    let blocks = chip.size();
+    let mut text = shape_line(heap, make, blocks, C::block_pages(), left_over)?;
     let tally = push_page_lines(heap, &mut text, chip)?;
     text.push_str(middle)?;
     let last = tally_line(heap, page_count(chip), tally)?;

@@ -40,7 +40,7 @@ fn entry_text(heap: Global, sector: u32, birth: Option<Tick>) -> Result<String, 
     match birth {
         Some(tick) => {
             let birth = tick.0;
-            format!(heap, " {sector}/{birth}")
+            format!(in heap; " {sector}/{birth}")
         }
         None => Ok(String::new(heap)),
     }
@@ -76,7 +76,7 @@ fn name_text(heap: Global, state: State) -> Result<String, AllocError>
 {
     match state {
         State::Present => String::from_str(heap, "present"),
-        State::Frozen(number) => format!(heap, "state {number}"),
+        State::Frozen(number) => format!(in heap; "state {number}"),
     }
 }
 
@@ -92,7 +92,7 @@ pub(crate) fn list_line<C: Chip>(
 {
     let name = name_text(heap, state)?;
     let entries = or_none(heap, entries_text(heap, store, state)?)?;
-    let text = format!(heap, "{name}:{entries}\n")?;
+    let text = format!(in heap; "{name}:{entries}\n")?;
     Ok(text)
 }
 

@@ -19,9 +19,9 @@ fn refusal_line(heap: Global, refusal: Refusal) -> Result<String, AllocError>
         Refusal::BadPage { page, cause } => {
             let page = page.0;
             let cause = cause.number();
-            format!(heap, "mount: {number}, page {page}, cause {cause}\n")
+            format!(in heap; "mount: {number}, page {page}, cause {cause}\n")
         }
-        _ => format!(heap, "mount: {number}\n"),
+        _ => format!(in heap; "mount: {number}\n"),
     }
 }
 

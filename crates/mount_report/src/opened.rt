@@ -58,7 +58,7 @@ fn granted_line(
     let label = label_text(heap, label)?;
     let Count { needed, capacity } = count;
     let text = format!(
-        heap,
+        in heap;
         "mount: 0, clock {clock}, held {held}, label {label}, needed {needed} of {capacity}\n"
     )?;
     Ok(text)

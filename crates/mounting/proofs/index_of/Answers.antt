@@ -5,37 +5,37 @@ use Rattle.mounting.proofs.Told.{many, agree, linked_at, mapped}
 use Rattle.mounting.proofs.Bare.{tagged_clock}
 use Rattle.mounting.proofs.index_of.Goals as goal
 
-pub returns-then-not-births-differ : goal.returns-then-not-births-differ
-returns-then-not-births-differ g c =
+pub returns-then-not-births_differ : goal.returns-then-not-births_differ
+returns-then-not-births_differ g c =
     let chip = c.args.chip.now in
     record {
-      verdict = refuse_births _ _ (g.C.Chip.pages chip) c.args.tags.now c.requires.scanned.tagged _ _ c.size-blocks.ensures c.block-pages-per.ensures c.if-not-births-differ.ensures;
+      verdict = refuse_births _ _ (g.C.Chip.pages chip) c.args.tags.now c.requires.scanned.tagged _ _ c.size-blocks.ensures c.block_pages-per.ensures c.if-not-births_differ.ensures;
       tells = tt;
     }
 
-pub erased-block-requires : goal.erased-block-requires
-erased-block-requires g c =
+pub erased_block-requires : goal.erased_block-requires
+erased_block-requires g c =
     let chip = c.args.chip.now in
     record {
-      whole = many (g.C.Chip.pages chip) c.args.tags.now c.requires.scanned.tagged ∙ g.C.Chip.shape.whole chip ∙ (λ i. sym c.size-blocks.ensures i * sym c.block-pages-per.ensures i);
+      whole = many (g.C.Chip.pages chip) c.args.tags.now c.requires.scanned.tagged ∙ g.C.Chip.shape.whole chip ∙ (λ i. sym c.size-blocks.ensures i * sym c.block_pages-per.ensures i);
       few = let e = c.size-blocks.ensures in let f = g.C.Chip.shape.few chip in omega arith;
     }
 
-pub returns-in-default : goal.returns-in-default
-returns-in-default g c =
+pub returns-in_default : goal.returns-in_default
+returns-in_default g c =
     let chip = c.args.chip.now in
     record {
-      verdict = refuse_block _ _ (g.C.Chip.pages chip) c.args.tags.now c.requires.scanned.tagged _ _ c.size-blocks.ensures c.block-pages-per.ensures c.in-default.ensures;
+      verdict = refuse_block _ _ (g.C.Chip.pages chip) c.args.tags.now c.requires.scanned.tagged _ _ c.size-blocks.ensures c.block_pages-per.ensures c.in_default.ensures;
       tells = tt;
     }
 
-pub overflow-sub-blocks-2 : goal.overflow-sub-blocks-2
-overflow-sub-blocks-2 g c =
+pub overflow_sub-blocks-2 : goal.overflow_sub-blocks-2
+overflow_sub-blocks-2 g c =
     let least : 2 ≤ g.C.Chip.per = g.C.Chip.shape.least in
-    let e = c.block-pages-per.ensures in
+    let e = c.block_pages-per.ensures in
     let f = c.size-blocks.ensures in
     let some = c.requires.some in
-    room_fits c.size-blocks.result c.block-pages-per.result (omega arith) (omega arith)
+    room_fits c.size-blocks.result c.block_pages-per.result (omega arith) (omega arith)
 
 pub returns-then-blocks-per : goal.returns-then-blocks-per
 returns-then-blocks-per g c =
@@ -43,37 +43,37 @@ returns-then-blocks-per g c =
     let ts = c.args.tags.now in
     let tagged = c.requires.scanned.tagged in
     let eb = c.size-blocks.ensures in
-    let ep = c.block-pages-per.ensures in
+    let ep = c.block_pages-per.ensures in
     let few = c.requires.few in
-    let long = c.records-of-records.ensures.long in
-    let count = count_is _ _ pages ts tagged _ _ eb ep c.records-of-records.result _ _ _ c.if-not-births-differ.ensures c.records-of-records.ensures.recorded c.as-slice.ensures c.requires.scanned.held (omega arith) c.count-needed-needed.ensures in
-    record { verdict = refuse_need _ _ pages ts tagged _ _ eb ep c.count-needed-needed.result count c.if-blocks-per.true; tells = tt }
+    let long = c.records_of-records.ensures.long in
+    let count = count_is _ _ pages ts tagged _ _ eb ep c.records_of-records.result _ _ _ c.if-not-births_differ.ensures c.records_of-records.ensures.recorded c.as_slice.ensures c.requires.scanned.held (omega arith) c.count_needed-needed.ensures in
+    record { verdict = refuse_need _ _ pages ts tagged _ _ eb ep c.count_needed-needed.result count c.if-blocks-per.true; tells = tt }
 
 pub returns : goal.returns
 returns g c =
     let pages = g.C.Chip.pages c.args.chip.now in
     let ts = c.args.tags.now in
-    let rs = c.records-of-records.result in
+    let rs = c.records_of-records.result in
     let told = c.requires.scanned in
     let tagged = told.tagged in
     let eb = c.size-blocks.ensures in
-    let ep = c.block-pages-per.ensures in
+    let ep = c.block_pages-per.ensures in
     let few = c.requires.few in
-    let long = c.records-of-records.ensures.long in
-    let recorded = c.records-of-records.ensures.recorded in
-    let apart = c.if-not-births-differ.ensures in
-    let count = count_is _ _ pages ts tagged _ _ eb ep rs _ _ _ apart recorded c.as-slice.ensures told.held (omega arith) c.count-needed-needed.ensures in
+    let long = c.records_of-records.ensures.long in
+    let recorded = c.records_of-records.ensures.recorded in
+    let apart = c.if-not-births_differ.ensures in
+    let count = count_is _ _ pages ts tagged _ _ eb ep rs _ _ _ apart recorded c.as_slice.ensures told.held (omega arith) c.count_needed-needed.ensures in
     let spare = c.in-Some.ensures in
     let keys = shuffled_keys _ _ pages ts tagged _ _ eb ep recorded.0 recorded.1 in
     let free = spare_is _ _ pages ts tagged _ _ eb ep (g.C.Chip.shape.whole c.args.chip.now) c.in-Some.spare.0 spare in
     let all = many pages ts tagged in
     record {
-      verdict = grant _ _ pages ts tagged _ _ eb ep c.count-needed-needed.result told.begun apart spare.some count c.if-blocks-per.false;
+      verdict = grant _ _ pages ts tagged _ _ eb ep c.count_needed-needed.result told.begun apart spare.some count c.if-blocks-per.false;
       tells = record {
         counted = all;
         agree = agree pages ts rs recorded.0 tagged recorded.2 keys;
         linked = linked_at pages ts rs recorded.0 tagged recorded.2 keys _;
-        mapped = λ s h. mapped pages ts rs recorded.0 tagged recorded.2 keys (differ _ _ pages ts tagged _ _ eb ep apart) (omega arith) s _ (c.sector-map-map.ensures.entries s h);
+        mapped = λ s h. mapped pages ts rs recorded.0 tagged recorded.2 keys (differ _ _ pages ts tagged _ _ eb ep apart) (omega arith) s _ (c.sector_map-map.ensures.entries s h);
         clock = c.clock.ensures ∙ tagged_clock (sayings pages) ts tagged;
         newest = told.birth;
         held = told.held;

@@ -6,7 +6,7 @@ use Rattle.moving.specs.Sound.{page_stays, record_stays, Lasting, lasting}
 use Rattle.moving.specs.Moves.{Copied}
 use Rattle.moving.proofs.Copies.{not_both, copied_none, movable, record_there, copied_more, copied_left}
 use Rattle.moving.proofs.copy_staying.Goals as goal
-use Rattle.moving.proofs.copy_staying.Goals.{then-page-stays+in-ok-move-page, else-page-stays}
+use Rattle.moving.proofs.copy_staying.Goals.{then-page_stays+in_ok-move_page, else-page_stays}
 
 -- The page decides as it did before the loop.
 decides : (ix ix' : Index) (limit k : ℕ) → lasting ix' ≡ lasting ix → get_or ix'.records k unused ≡ get_or ix.records k unused → page_stays ix' limit k ≡ page_stays ix limit k
@@ -18,12 +18,12 @@ pub loop-i-init : goal.loop-i-init
 loop-i-init g c =
     (refl, refl, refl, λ link last_birth p. copied_none (page_stays c.args.ix.now c.args.limit) c.args.from c.args.to (g.C.Chip.pages c.args.chip.now) c.args.ix.now)
 
-pub returns-in-err-move-page : goal.returns-in-err-move-page
-returns-in-err-move-page g c =
+pub returns-in_err-move_page : goal.returns-in_err-move_page
+returns-in_err-move_page g c =
     let m = g.C.Chip in
     let inv = c.loop-i.invariant in
-    let e = c.move-page.ensures in
-    let per_is = c.block-pages-per.ensures in
+    let e = c.move_page.ensures in
+    let per_is = c.block_pages-per.ensures in
     let h : c.loop-i.i < m.per = omega arith in
     record {
       kept = e.kept ∙ inv.0;
@@ -31,7 +31,7 @@ returns-in-err-move-page g c =
       lasting = e.lasting ∙ inv.2;
       copied = λ link last_birth p.
           let ok = (e.moved (movable (m.blocks c.args.chip.now) m.per (m.pages c.args.chip.now) c.args.ix.now link last_birth c.args.limit c.args.from c.args.to p c.loop-i.i h (m.pages c.loop-i.chip) c.loop-i.ix (inv.3 link last_birth p))).ok in
-          absurd (not_both c.move-page.result c.in-err-move-page.field-0.0 c.in-err-move-page.was ok);
+          absurd (not_both c.move_page.result c.in_err-move_page.field-0.0 c.in_err-move_page.was ok);
     }
 
 pub loop-i-preserved : goal.loop-i-preserved
@@ -47,29 +47,29 @@ loop-i-preserved g c =
     let i = c.loop-i.i in
     let pages' = m.pages c.loop-i.chip in
     let ix' = c.loop-i.ix in
-    let per_is = c.block-pages-per.ensures in
+    let per_is = c.block_pages-per.ensures in
     let h : i < m.per = omega arith in
-    elim c.if-page-stays.branch [
-      | then-page-stays+in-ok-move-page w ↦
-          let e = w.move-page.ensures in (
+    elim c.if-page_stays.branch [
+      | then-page_stays+in_ok-move_page w ↦
+          let e = w.move_page.ensures in (
             ap m.kept w.chip-is ∙ e.kept ∙ inv.0,
             ap m.blocks w.chip-is ∙ e.same ∙ inv.1,
             ap lasting w.ix-is ∙ e.lasting ∙ inv.2,
             λ link last_birth p.
                 let d = inv.3 link last_birth p in
                 let there = record_there blocks m.per pages ix link last_birth limit from to p i h pages' ix' d in
-                let t : page_stays ix limit (from + i) ≡ true = sym (decides ix ix' limit (from + i) inv.2 there) ∙ sym c.page-stays.ensures ∙ w.if-page-stays.true in
+                let t : page_stays ix limit (from + i) ≡ true = sym (decides ix ix' limit (from + i) inv.2 there) ∙ sym c.page_stays.ensures ∙ w.if-page_stays.true in
                 let moved = e.moved (movable blocks m.per pages ix link last_birth limit from to p i h pages' ix' d) in
                 rw (w.chip-is, w.ix-is) (copied_more blocks m.per pages ix link last_birth limit from to p i h pages' ix' d t _ _ _ moved),
           )
-      | else-page-stays w ↦ (
+      | else-page_stays w ↦ (
         ap m.kept w.chip-is ∙ inv.0,
         ap m.blocks w.chip-is ∙ inv.1,
         ap lasting w.ix-is ∙ inv.2,
         λ link last_birth p.
             let d = inv.3 link last_birth p in
             let there = record_there blocks m.per pages ix link last_birth limit from to p i h pages' ix' d in
-            let t : page_stays ix limit (from + i) ≡ false = sym (decides ix ix' limit (from + i) inv.2 there) ∙ sym c.page-stays.ensures ∙ w.if-page-stays.false in
+            let t : page_stays ix limit (from + i) ≡ false = sym (decides ix ix' limit (from + i) inv.2 there) ∙ sym c.page_stays.ensures ∙ w.if-page_stays.false in
             rw (w.chip-is, w.ix-is) (copied_left blocks m.per pages ix link last_birth limit from to p i h pages' ix' d t),
       )
     ]
@@ -78,7 +78,7 @@ pub returns : goal.returns
 returns g c =
     let m = g.C.Chip in
     let inv = c.loop-i.invariant in
-    let per_is = c.block-pages-per.ensures in
+    let per_is = c.block_pages-per.ensures in
     let end : c.loop-i.i ≡ m.per = omega arith in
     record {
       kept = inv.0;

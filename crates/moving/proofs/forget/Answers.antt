@@ -32,7 +32,7 @@ loop-i-preserved c =
     let ix = c.loop-i.ix in
     let from = c.args.from in
     let i = c.loop-i.i in
-    let records : c.put.new.self.records ≡ set ix.records (from + i) unused = e.records ∙ ap (set ix.records (from + i)) c.unused-record.ensures in (
+    let records : c.put.new.self.records ≡ set ix.records (from + i) unused = e.records ∙ ap (set ix.records (from + i)) c.unused_record.ensures in (
       λ k. ap (λ z. get_or z k unused) records ∙ more c.args.ix.now.records ix.records from i (omega (arith, ix.long)) inv.0 k,
       ap (λ (r : Rest). r.map) e.rest ∙ inv.1,
       ap lasts e.rest ∙ inv.2,

@@ -12,7 +12,7 @@ returns-then-from-per g c =
     let m = g.C.Chip in
     let chip = c.args.chip.now in
     let ix = c.args.ix.now in
-    let per_is = c.block-pages-per.ensures in
+    let per_is = c.block_pages-per.ensures in
     record {
       kept = refl;
       same = refl;
@@ -29,21 +29,21 @@ returns-then-from-per g c =
           ];
     }
 
-pub returns-in-err-copy-staying : goal.returns-in-err-copy-staying
-returns-in-err-copy-staying g c =
+pub returns-in_err-copy_staying : goal.returns-in_err-copy_staying
+returns-in_err-copy_staying g c =
     let m = g.C.Chip in
     let chip = c.args.chip.now in
     let ix = c.args.ix.now in
     let victim = c.args.victim.0 in
-    let e = c.copy-staying.ensures in
+    let e = c.copy_staying.ensures in
     record {
       kept = e.kept;
       same = e.same;
       lasting = e.lasting;
       done = λ link last_birth sound last h two.
           let p = copyable (m.blocks chip) m.per (m.pages chip) ix link last_birth c.args.limit victim sound last h two in
-          let p' = subst (λ n. Copyable (m.blocks chip) m.per (m.pages chip) ix link last_birth c.args.limit (victim * n) (ix.spare.0 * n)) (sym c.block-pages-per.ensures) p in
-          absurd (not_both c.copy-staying.result c.in-err-copy-staying.field-0.0 c.in-err-copy-staying.was (e.copied link last_birth p').0);
+          let p' = subst (λ n. Copyable (m.blocks chip) m.per (m.pages chip) ix link last_birth c.args.limit (victim * n) (ix.spare.0 * n)) (sym c.block_pages-per.ensures) p in
+          absurd (not_both c.copy_staying.result c.in_err-copy_staying.field-0.0 c.in_err-copy_staying.was (e.copied link last_birth p').0);
     }
 
 pub returns : goal.returns
@@ -53,12 +53,12 @@ returns g c =
     let ix = c.args.ix.now in
     let victim = c.args.victim.0 in
     let limit = c.args.limit in
-    let per_is = c.block-pages-per.ensures in
-    let e = c.copy-staying.ensures in
+    let per_is = c.block_pages-per.ensures in
+    let e = c.copy_staying.ensures in
     let f = c.erase.ensures in
     let h' = c.forget.ensures in
-    let pages₁ = m.pages c.copy-staying.new.chip in
-    let ix₁ = c.copy-staying.new.ix in
+    let pages₁ = m.pages c.copy_staying.new.chip in
+    let ix₁ = c.copy_staying.new.ix in
     record {
       kept = f.kept ∙ e.kept;
       same = f.same ∙ e.same;

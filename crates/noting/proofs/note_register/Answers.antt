@@ -20,8 +20,8 @@ pub returns : goal.returns
 returns c =
     let ix = c.args.ix.now in
     let k = c.args.page.0 in
-    let memory = noted ix k c.args.held c.tick-birth.result c.register-record.result c.put.new.self.records (rest_of c.put.new.self) (lt-ltb k ix.pages c.if-at-ix.false)
-    c.tick-birth.ensures c.register-record.ensures c.put.ensures.records c.put.ensures.rest in
+    let memory = noted ix k c.args.held c.tick-birth.result c.register_record.result c.put.new.self.records (rest_of c.put.new.self) (lt-ltb k ix.pages c.if-at-ix.false)
+    c.tick-birth.ensures c.register_record.ensures c.put.ensures.records c.put.ensures.rest in
     record {
       memory = memory;
       added = λ blocks per pages x con free is holdable. register_added blocks per pages ix _ k x c.args.held con free is holdable memory;

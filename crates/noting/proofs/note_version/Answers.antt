@@ -26,8 +26,8 @@ returns c =
     let last = c.args.sector.last in
     let first = c.put.ensures in
     let both = c.put-2.ensures in
-    let memory = noted ix k s c.args.deletion (lt-ltb k ix.pages c.if-at-ix.false) c.tick-birth.result c.at-replaced.result c.version-kind.result
-    c.put.new.self.records c.put-2.new.self.records (rest_of c.put-2.new.self) c.tick-birth.ensures c.at-replaced.ensures c.version-kind.ensures first.records both.records
+    let memory = noted ix k s c.args.deletion (lt-ltb k ix.pages c.if-at-ix.false) c.tick-birth.result c.at-replaced.result c.version_kind.result
+    c.put.new.self.records c.put-2.new.self.records (rest_of c.put-2.new.self) c.tick-birth.ensures c.at-replaced.ensures c.version_kind.ensures first.records both.records
     (both.rest ∙ first.rest) in
     record {
       memory = memory;

@@ -6,12 +6,12 @@ use Rattle.mounting.proofs.blocks.erased_block.Goals as goal
 pub loop-block-init : goal.loop-block-init
 loop-block-init c = block_start c.args.per (tag_sayings c.args.tags.now) c.args.blocks
 
-pub is-block-erased-requires : goal.is-block-erased-requires
-is-block-erased-requires c = block_fits c.args.per (tag_sayings c.args.tags.now) c.args.blocks c.loop-block.block c.loop-block-test.true _ c.requires.whole
+pub is_block_erased-requires : goal.is_block_erased-requires
+is_block_erased-requires c = block_fits c.args.per (tag_sayings c.args.tags.now) c.args.blocks c.loop-block.block c.loop-block-test.true _ c.requires.whole
 
-pub returns-then-is-block-erased : goal.returns-then-is-block-erased
-returns-then-is-block-erased c =
-    let is = sym c.is-block-erased.ensures ∙ c.if-is-block-erased.true in
+pub returns-then-is_block_erased : goal.returns-then-is_block_erased
+returns-then-is_block_erased c =
+    let is = sym c.is_block_erased.ensures ∙ c.if-is_block_erased.true in
     record {
       some = sym c.loop-block.invariant ∙ block_hit c.args.per (tag_sayings c.args.tags.now) c.args.blocks c.loop-block.block c.loop-block-test.true is;
       stands = c.loop-block-test.true;
@@ -20,7 +20,7 @@ returns-then-is-block-erased c =
 
 pub loop-block-preserved : goal.loop-block-preserved
 loop-block-preserved c =
-    block_miss c.args.per (tag_sayings c.args.tags.now) c.args.blocks c.loop-block.block c.loop-block-test.true (sym c.is-block-erased.ensures ∙ c.if-is-block-erased.false)
+    block_miss c.args.per (tag_sayings c.args.tags.now) c.args.blocks c.loop-block.block c.loop-block-test.true (sym c.is_block_erased.ensures ∙ c.if-is_block_erased.false)
     ∙ c.loop-block.invariant
 
 pub returns : goal.returns

@@ -7,4 +7,4 @@ use Rattle.mounting.proofs.blocks.is_block_erased.Goals as goal
 pub returns : goal.returns
 returns c =
     let e : (c.args.start + c.args.per) - c.args.start ≡ c.args.per = omega arith in
-    c.all-erased.ensures ∙ ap (λ n. all_nothing (tag_sayings (take n (drop c.args.start c.args.tags.now)))) e ∙ part_silent c.args.tags.now c.args.start c.args.per
+    c.all_erased.ensures ∙ ap (λ n. all_nothing (tag_sayings (take n (drop c.args.start c.args.tags.now)))) e ∙ part_silent c.args.tags.now c.args.start c.args.per

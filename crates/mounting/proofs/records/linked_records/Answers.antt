@@ -7,7 +7,7 @@ use Rattle.mounting.proofs.records.linked_records.Goals as goal
 pub loop-i-preserved : goal.loop-i-preserved
 loop-i-preserved c = (
   length-set _ _ _ ∙ c.loop-i.invariant.0,
-  recorded_more c.args.keys.now c.args.tags.now c.loop-i.records c.loop-i.i c.record-of.result (omega arith) (omega arith) _ c.index-tags-i.is c.loop-i.invariant.1 c.record-of.ensures,
+  recorded_more c.args.keys.now c.args.tags.now c.loop-i.records c.loop-i.i c.record_of.result (omega arith) (omega arith) _ c.index-tags-i.is c.loop-i.invariant.1 c.record_of.ensures,
 )
 
 pub returns : goal.returns

@@ -1,7 +1,7 @@
 use Rattle.std.proofs.Common.{◌≡◌, ℕ, length, refl, ap, ◌∙◌, subst, arith, length-set}
 use Rattle.mounting.proofs.SectorTurns.{Entries, entries_none, entries_other, entries_replaced, entries_last}
 use Rattle.mounting.proofs.sectors.sector_map.Goals as goal
-use Rattle.mounting.proofs.sectors.sector_map.Goals.{in-Some+then-records-i-eq0, in-Some+else-records-i-eq0, in-default}
+use Rattle.mounting.proofs.sectors.sector_map.Goals.{in-Some+then-records-i-eq0, in-Some+else-records-i-eq0, in_default}
 
 pub loop-i-init : goal.loop-i-init
 loop-i-init c = (refl, entries_none c.args.tags.now c.args.records.now 2048)
@@ -15,10 +15,10 @@ loop-i-preserved c =
     let wide = c.loop-i.invariant.0 in
     let inv = c.loop-i.invariant.1 in
     let at = c.index-tags-i.is in
-    elim c.match-version-of.branch [
+    elim c.match-version_of.branch [
       | in-Some+then-records-i-eq0 w ↦ (ap length w.map-is ∙ length-set _ _ _ ∙ wide, rw w.map-is (entries_last ts rs i _ (omega arith) at map inv w.in-Some.version wide w.in-Some.ensures w.if-records-i-eq0.true))
       | in-Some+else-records-i-eq0 w ↦ (ap length w.map-is ∙ wide, rw w.map-is (entries_replaced ts rs i _ (omega arith) at map inv w.if-records-i-eq0.false))
-      | in-default w ↦ (ap length w.map-is ∙ wide, rw w.map-is (entries_other ts rs i _ (omega arith) at map inv w.in-default.ensures))
+      | in_default w ↦ (ap length w.map-is ∙ wide, rw w.map-is (entries_other ts rs i _ (omega arith) at map inv w.in_default.ensures))
     ]
 
 pub returns : goal.returns

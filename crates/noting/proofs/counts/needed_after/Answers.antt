@@ -17,29 +17,29 @@ module _ (ix : Index) (s n : ℕ) (counted : n ≡ needed_count ix) where
       b ≡ held_between held r.birth (ix.clock + 1) → n + cond b 1 0 ≡ needed_after ix s
   replaced p held r b e f g h = rw (e, counted, h, f, g, add-one ix.clock) refl
 
-pub returns-in-default : goal.returns-in-default
-returns-in-default c =
+pub returns-in_default : goal.returns-in_default
+returns-in_default c =
     let ix = c.args.ix.now in
     let s = c.args.sector.number in
     let last = c.args.sector.last in
-    let e = none ix s c.needed-count-count.result c.needed-count-count.ensures.count (sym c.present-page.ensures.page ∙ c.in-default.is) in
+    let e = none ix s c.needed_count-count.result c.needed_count-count.ensures.count (sym c.present_page.ensures.page ∙ c.in_default.is) in
     record { count = e; reads = λ blocks per pages content con. e ∙ after_reads blocks per pages ix con s (omega arith) content }
 
-pub returns-then-is-held-between : goal.returns-then-is-held-between
-returns-then-is-held-between c =
+pub returns-then-is_held_between : goal.returns-then-is_held_between
+returns-then-is_held_between c =
     let ix = c.args.ix.now in
     let s = c.args.sector.number in
     let last = c.args.sector.last in
-    let e = replaced ix s c.needed-count-count.result c.needed-count-count.ensures.count c.in-Some.page c.as-slice.result.now c.at-replaced.result true
-    (sym c.present-page.ensures.page ∙ c.in-Some.is) c.as-slice.ensures c.at-replaced.ensures c.if-is-held-between.ensures in
+    let e = replaced ix s c.needed_count-count.result c.needed_count-count.ensures.count c.in-Some.page c.as_slice.result.now c.at-replaced.result true
+    (sym c.present_page.ensures.page ∙ c.in-Some.is) c.as_slice.ensures c.at-replaced.ensures c.if-is_held_between.ensures in
     record { count = e; reads = λ blocks per pages content con. e ∙ after_reads blocks per pages ix con s (omega arith) content }
 
-pub returns-else-is-held-between : goal.returns-else-is-held-between
-returns-else-is-held-between c =
+pub returns-else-is_held_between : goal.returns-else-is_held_between
+returns-else-is_held_between c =
     let ix = c.args.ix.now in
     let s = c.args.sector.number in
     let last = c.args.sector.last in
-    let n = c.needed-count-count.result in
-    let e = sym (add-zero n) ∙ replaced ix s n c.needed-count-count.ensures.count c.in-Some.page c.as-slice.result.now c.at-replaced.result false
-    (sym c.present-page.ensures.page ∙ c.in-Some.is) c.as-slice.ensures c.at-replaced.ensures c.if-is-held-between.ensures in
+    let n = c.needed_count-count.result in
+    let e = sym (add-zero n) ∙ replaced ix s n c.needed_count-count.ensures.count c.in-Some.page c.as_slice.result.now c.at-replaced.result false
+    (sym c.present_page.ensures.page ∙ c.in-Some.is) c.as_slice.ensures c.at-replaced.ensures c.if-is_held_between.ensures in
     record { count = e; reads = λ blocks per pages content con. e ∙ after_reads blocks per pages ix con s (omega arith) content }

@@ -2,14 +2,14 @@ use Rattle.std.proofs.Common.{◌≡◌, suc, sym, refl, ap, ◌∙◌, add-one,
 use Rattle.noting.specs.Counting.{page_needed, tally, needed_count}
 use Rattle.noting.proofs.Counted.{tally_most, tally_step, count_reads}
 use Rattle.noting.proofs.counts.needed_count.Goals as goal
-use Rattle.noting.proofs.counts.needed_count.Goals.{then-is-needed, else-is-needed}
+use Rattle.noting.proofs.counts.needed_count.Goals.{then-is_needed, else-is_needed}
 
 pub loop-i-init : goal.loop-i-init
 unfolding tally
 loop-i-init c = refl
 
-pub overflow-add-count : goal.overflow-add-count
-overflow-add-count c = let few = c.args.ix.now.few in let most = tally_most (page_needed c.args.ix.now) c.loop-i.i in omega (arith, c.loop-i.invariant)
+pub overflow_add-count : goal.overflow_add-count
+overflow_add-count c = let few = c.args.ix.now.few in let most = tally_most (page_needed c.args.ix.now) c.loop-i.i in omega (arith, c.loop-i.invariant)
 
 pub loop-i-preserved : goal.loop-i-preserved
 loop-i-preserved c =
@@ -17,12 +17,12 @@ loop-i-preserved c =
     let i = c.loop-i.i in
     let step = tally_step (page_needed ix) i in
     let next = ap (tally (page_needed ix)) (add-one i) in
-    elim c.if-is-needed.branch [
-      | then-is-needed w ↦
-          let t = sym c.is-needed.ensures ∙ w.if-is-needed.true in
+    elim c.if-is_needed.branch [
+      | then-is_needed w ↦
+          let t = sym c.is_needed.ensures ∙ w.if-is_needed.true in
           w.count-is ∙ add-one c.loop-i.count ∙ ap suc c.loop-i.invariant ∙ sym (next ∙ step ∙ rw t refl)
-      | else-is-needed w ↦
-          let t = sym c.is-needed.ensures ∙ w.if-is-needed.false in
+      | else-is_needed w ↦
+          let t = sym c.is_needed.ensures ∙ w.if-is_needed.false in
           w.count-is ∙ c.loop-i.invariant ∙ sym (next ∙ step ∙ rw t refl)
     ]
 

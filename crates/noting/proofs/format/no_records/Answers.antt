@@ -4,4 +4,4 @@ use Rattle.noting.proofs.format.no_records.Goals as goal
 
 pub returns : goal.returns
 unfolding no_records
-returns c = ap (replicate 2048) c.unused-record.ensures
+returns c = ap (replicate 2048) c.unused_record.ensures

@@ -5,7 +5,7 @@ use Rattle.readings.specs.Changes.{in_state}
 use Rattle.noting.specs.Lookups.{Found, found_below, Shows, page_in_state}
 use Rattle.noting.proofs.Youngest.{found_here, found_other, found_older, shows_in_state}
 use Rattle.noting.proofs.lookups.page_in_state.Goals as goal
-use Rattle.noting.proofs.lookups.page_in_state.Goals.{then-is-version-of+then-birth-saved, else-is-version-of, else-is-version-of-via-then-is-version-of+else-birth-saved, else-is-version-of-via-else-is-version-of}
+use Rattle.noting.proofs.lookups.page_in_state.Goals.{then-is_version_of+then-birth-saved, else-is_version_of, else-is_version_of-via-then-is_version_of+else-birth-saved, else-is_version_of-via-else-is_version_of}
 
 pub loop-i-init : goal.loop-i-init
 unfolding found_below
@@ -21,13 +21,13 @@ loop-i-preserved c =
     let r = c.at-saved.result in
     let is = c.at-saved.ensures in
     let inv = c.loop-i.invariant in
-    elim c.if-is-version-of.branch [
-      | then-is-version-of+then-birth-saved w ↦
-          rw (w.found-is, w.birth-is) (found_here ix.records n s i r is f inv (sym c.is-version-of.ensures ∙ w.if-is-version-of.true) w.if-birth-saved.true)
-      | else-is-version-of w ↦
-          rw (w.found-is, w.birth-is) (elim w.else-is-version-of.branch [
-            | else-is-version-of-via-then-is-version-of+else-birth-saved u ↦ found_older ix.records n s i r is f inv u.if-birth-saved.false
-            | else-is-version-of-via-else-is-version-of u ↦ found_other ix.records n s i r is f inv (sym c.is-version-of.ensures ∙ u.if-is-version-of.false)
+    elim c.if-is_version_of.branch [
+      | then-is_version_of+then-birth-saved w ↦
+          rw (w.found-is, w.birth-is) (found_here ix.records n s i r is f inv (sym c.is_version_of.ensures ∙ w.if-is_version_of.true) w.if-birth-saved.true)
+      | else-is_version_of w ↦
+          rw (w.found-is, w.birth-is) (elim w.else-is_version_of.branch [
+            | else-is_version_of-via-then-is_version_of+else-birth-saved u ↦ found_older ix.records n s i r is f inv u.if-birth-saved.false
+            | else-is_version_of-via-else-is_version_of u ↦ found_other ix.records n s i r is f inv (sym c.is_version_of.ensures ∙ u.if-is_version_of.false)
           ])
     ]
 
