@@ -11,10 +11,10 @@ returns g c =
     let ix = c.args.ix.now in
     let held = held_of c.args.held in
     let image = c.args.image.now in
-    let f = c.in-ok-page.ensures in
-    let k = c.in-ok-page.page.0 in
-    let pages₁ = m.pages c.free-page.new.chip in
-    let ix₁ = c.free-page.new.ix in
+    let f = c.in_ok-page.ensures in
+    let k = c.in_ok-page.page.0 in
+    let pages₁ = m.pages c.free_page.new.chip in
+    let ix₁ = c.free_page.new.ix in
     let p = c.program.ensures in
     record {
       kept = p.kept ∙ f.kept;
@@ -23,7 +23,7 @@ returns g c =
           let ready = f.readies can.opened in
           let done = programmed pages₁ k image c.program.result (m.pages c.program.new.self) ready.inside (omega arith) ready.free p.answer p.after in
           registered (m.blocks chip) m.per (m.pages chip) ix can k pages₁ ix₁ ready held image says _
-          (c.note-register.ensures.added (m.blocks chip) m.per pages₁ image (consistent (m.blocks chip) m.per pages₁ ix₁ ready.opened)
+          (c.note_register.ensures.added (m.blocks chip) m.per pages₁ image (consistent (m.blocks chip) m.per pages₁ ix₁ ready.opened)
           (is_free (m.blocks chip) m.per (m.pages chip) ix can k pages₁ ix₁ ready)
           (says_register (m.blocks chip) m.per (m.pages chip) ix can k pages₁ ix₁ ready held image says)) (Ok tt) refl _ done.1;
     }

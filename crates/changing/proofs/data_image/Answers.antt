@@ -4,9 +4,9 @@ use Rattle.changing.proofs.data_image.Goals as goal
 
 pub returns : goal.returns
 returns c =
-    let b = c.next-birth-birth.result in
+    let b = c.next_birth-birth.result in
     record {
       says = λ blocks per pages can.
-          data_says blocks per pages c.args.ix.now can b.number c.next-birth-birth.ensures c.args.sector.number c.args.sector.last _ c.args.given.now (omega arith) b.first b.last
-          c.write-data.ensures.writes;
+          data_says blocks per pages c.args.ix.now can b.number c.next_birth-birth.ensures c.args.sector.number c.args.sector.last _ c.args.given.now (omega arith) b.first b.last
+          c.write_data.ensures.writes;
     }

@@ -10,7 +10,7 @@ use Rattle.moving.proofs.Keeps.{kept_trans, staying_same, last_stay_same}
 use Rattle.room.specs.Choose.{is_later, page_later}
 use Rattle.room.proofs.Purges.{not_spare, none_here, none_left, none_none}
 use Rattle.room.proofs.purge.Goals as goal
-use Rattle.room.proofs.purge.Goals.{then-has-later+in-ok-relocate, else-has-later}
+use Rattle.room.proofs.purge.Goals.{then-has_later+in_ok-relocate, else-has_later}
 
 -- Whether a block has a version born after the limit.
 abbrev Looked : ℕ → Index → ℕ → ℕ → Bool → Type 0
@@ -23,8 +23,8 @@ Has per ix limit b = (i : ℕ) × (i < per) × (page_later ix limit (b * per + i
 abbrev HasNone : ℕ → Index → ℕ → ℕ → Type 0
 HasNone per ix limit b = (i : ℕ) → i < per → page_later ix limit (b * per + i) ≡ false
 
-pub returns-in-err-relocate : goal.returns-in-err-relocate
-returns-in-err-relocate g c =
+pub returns-in_err-relocate : goal.returns-in_err-relocate
+returns-in_err-relocate g c =
     let m = g.C.Chip in
     let inv = c.loop-b.invariant in
     let e = c.relocate.ensures in
@@ -33,8 +33,8 @@ returns-in-err-relocate g c =
     let b = c.loop-b.b in
     let limit = c.args.limit in
     let size = c.size-blocks.ensures in
-    let looked : Looked m.per ix limit b c.has-later.result = subst (λ n. Looked n ix limit b c.has-later.result) c.block-pages-per.ensures c.has-later.ensures in
-    let here : Has m.per ix limit b = when_true (Has m.per ix limit b) (HasNone m.per ix limit b) c.if-has-later.true looked in
+    let looked : Looked m.per ix limit b c.has_later.result = subst (λ n. Looked n ix limit b c.has_later.result) c.block_pages-per.ensures c.has_later.ensures in
+    let here : Has m.per ix limit b = when_true (Has m.per ix limit b) (HasNone m.per ix limit b) c.if-has_later.true looked in
     record {
       kept = e.kept ∙ inv.0;
       same = e.same ∙ inv.1;
@@ -45,7 +45,7 @@ returns-in-err-relocate g c =
           let first : b < m.blocks chip = let t = c.loop-b-test.true in let q = inv.1 in omega arith in
           let done = e.done link last_birth now-sound (last_stay_same c.args.ix.now ix link limit inv.2 last_birth last) first
           (not_spare (m.blocks chip) m.per (m.pages chip) ix link last_birth limit now-sound b first here.0 here.1 here.2) in
-          absurd (not_both c.relocate.result c.in-err-relocate.field-0.0 c.in-err-relocate.was done.ok);
+          absurd (not_both c.relocate.result c.in_err-relocate.field-0.0 c.in_err-relocate.was done.ok);
     }
 
 pub loop-b-preserved : goal.loop-b-preserved
@@ -62,13 +62,13 @@ loop-b-preserved g c =
     let size = c.size-blocks.ensures in
     let first : b < blocks = let t = c.loop-b-test.true in omega arith in
     let more : b + 1 ≤ c.size-blocks.result = let t = c.loop-b-test.true in omega arith in
-    let looked : Looked m.per ix limit b c.has-later.result = subst (λ n. Looked n ix limit b c.has-later.result) c.block-pages-per.ensures c.has-later.ensures in
-    elim c.if-has-later.branch [
-      | then-has-later+in-ok-relocate w ↦
+    let looked : Looked m.per ix limit b c.has_later.result = subst (λ n. Looked n ix limit b c.has_later.result) c.block_pages-per.ensures c.has_later.ensures in
+    elim c.if-has_later.branch [
+      | then-has_later+in_ok-relocate w ↦
           let e = w.relocate.ensures in
           let pages' = m.pages w.relocate.new.chip in
           let ix' = w.relocate.new.ix in
-          let here : Has m.per ix limit b = when_true (Has m.per ix limit b) (HasNone m.per ix limit b) w.if-has-later.true looked in (
+          let here : Has m.per ix limit b = when_true (Has m.per ix limit b) (HasNone m.per ix limit b) w.if-has_later.true looked in (
             ap m.kept w.chip-is ∙ e.kept ∙ inv.0,
             ap m.blocks w.chip-is ∙ e.same ∙ inv.1,
             ap lasting w.ix-is ∙ e.lasting ∙ inv.2,
@@ -86,8 +86,8 @@ loop-b-preserved g c =
                 rw (w.chip-is, w.ix-is) (done.sound, kept_trans (staying old link limit) pages (m.pages chip) pages' turn.1 keeps, none, (λ all. absurd (never all))),
             more,
           )
-      | else-has-later w ↦
-          let here : HasNone m.per ix limit b = when_false (Has m.per ix limit b) (HasNone m.per ix limit b) w.if-has-later.false looked in (
+      | else-has_later w ↦
+          let here : HasNone m.per ix limit b = when_false (Has m.per ix limit b) (HasNone m.per ix limit b) w.if-has_later.false looked in (
             ap m.kept w.chip-is ∙ inv.0,
             ap m.blocks w.chip-is ∙ inv.1,
             ap lasting w.ix-is ∙ inv.2,

@@ -6,4 +6,4 @@ use Rattle.bench_lines.proofs.commands.parse_command.Goals as goal
 pub returns : goal.returns
 returns c =
     let line = c.args.line.now in
-    cond_above 40 (length line) None (words_of line) c.parse-words.result c.if-line-gt-LINE-BYTES.false c.parse-words.ensures
+    cond_above 40 (length line) None (words_of line) c.parse_words.result c.if-line-gt-LINE_BYTES.false c.parse_words.ensures

@@ -13,4 +13,4 @@ spaced (letter ∷ b ∷ rest) h space = rw (eq-eqb b 32 space)
 pub returns-in-32 : goal.returns-in-32
 returns-in-32 c =
     let line = c.args.line.now in
-    c.parse-numbers.ensures ∙ ap (numbers_of (get_or line 0 0)) (take_rest line 2) ∙ spaced line (omega (arith, ltb-true, ltb-false)) (omega arith)
+    c.parse_numbers.ensures ∙ ap (numbers_of (get_or line 0 0)) (take_rest line 2) ∙ spaced line (omega (arith, ltb-true, ltb-false)) (omega arith)

@@ -5,8 +5,8 @@ use Rattle.bench_lines.proofs.lines.parse_lines.Goals as goal
 
 pub loop-rest-preserved : goal.loop-rest-preserved
 loop-rest-preserved c =
-    let parts = c.split-line.result in
-    command_more (vec_items c.loop-rest.commands) c.loop-rest.rest.now parts.0.now parts.1.now c.split-line.ensures.lines c.parse-command.ensures c.in-ok-push.ensures.items c.loop-rest.invariant
+    let parts = c.split_line.result in
+    command_more (vec_items c.loop-rest.commands) c.loop-rest.rest.now parts.0.now parts.1.now c.split_line.ensures.lines c.parse_command.ensures c.in_ok-push.ensures.items c.loop-rest.invariant
 
 pub returns : goal.returns
 returns c =

@@ -6,7 +6,7 @@ use Rattle.bench_lines.proofs.numbers.parse_number.Goals as goal
 
 pub loop-byte-init : goal.loop-byte-init
 loop-byte-init c =
-    (omega arith, some_digits c.args.most c.args.word.now (eqb-false (length c.args.word.now) 0 (sym c.if-is-empty.ensures)))
+    (omega arith, some_digits c.args.most c.args.word.now (eqb-false (length c.args.word.now) 0 (sym c.if-is_empty.ensures)))
 
 pub loop-byte-preserved : goal.loop-byte-preserved
 loop-byte-preserved c =
@@ -14,18 +14,18 @@ loop-byte-preserved c =
     let n = c.loop-byte.number in
     let word = c.args.word.now in
     let i = c.loop-byte.byte-index in
-    let is = sym c.in-ok-number.ensures in
+    let is = sym c.in_ok-number.ensures in
     let more = number_more most n (get_or word i 0) (drop (i + 1) word) is in
     ((taken most n (get_or word i 0) is).2, more ∙ sym (at_drop_more (number_after most n) word i 0 c.loop-byte-test.true) ∙ c.loop-byte.invariant.1)
 
-pub returns-in-err-number : goal.returns-in-err-number
-returns-in-err-number c =
+pub returns-in_err-number : goal.returns-in_err-number
+returns-in_err-number c =
     let most = c.args.most in
     let n = c.loop-byte.number in
     let word = c.args.word.now in
     let i = c.loop-byte.byte-index in
-    let none = number_none most n (get_or word i 0) (drop (i + 1) word) (sym c.in-err-number.ensures) in
-    rw c.from-residual.ensures (record { value = sym none ∙ sym (at_drop_more (number_after most n) word i 0 c.loop-byte-test.true) ∙ c.loop-byte.invariant.1; bound = tt })
+    let none = number_none most n (get_or word i 0) (drop (i + 1) word) (sym c.in_err-number.ensures) in
+    rw c.from_residual.ensures (record { value = sym none ∙ sym (at_drop_more (number_after most n) word i 0 c.loop-byte-test.true) ∙ c.loop-byte.invariant.1; bound = tt })
 
 pub returns : goal.returns
 returns c =

@@ -5,9 +5,9 @@ use Rattle.bench_lines.proofs.Printed.{unknown_more, row_more, row_none, rows_al
 use Rattle.bench_lines.proofs.replies.rows.Goals as goal
 use Rattle.bench_lines.proofs.replies.rows.Goals.{in-None+in-ok-push-str, in-Some+in-Some-next+in-ok-push-row}
 
-pub returns-in-default : goal.returns-in-default
-returns-in-default c =
-    row_none c.args.lines.now c.loop-line.line-index c.loop-line-test.true (string_bytes c.loop-line.text) (iter_rest c.loop-line.replies) c.in-Some.is c.in-default.ensures.steps.0 c.loop-line.invariant ∙ ap (rows_of c.args.lines.now) c.iter-replies.ensures.rest
+pub returns-in_default : goal.returns-in_default
+returns-in_default c =
+    row_none c.args.lines.now c.loop-line.line-index c.loop-line-test.true (string_bytes c.loop-line.text) (iter_rest c.loop-line.replies) c.in-Some.is c.in_default.ensures.steps.0 c.loop-line.invariant ∙ ap (rows_of c.args.lines.now) c.iter-replies.ensures.rest
 
 pub loop-line-smaller : goal.loop-line-smaller
 loop-line-smaller c = omega arith

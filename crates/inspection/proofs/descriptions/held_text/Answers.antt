@@ -11,5 +11,5 @@ parts (x ∷ xs) h = ap (λ ys. decimal x ++ spaced ys) (take_all (length (x ∷
 pub returns : goal.returns
 returns c =
     let xs = c.args.held.now in
-    let some : length xs ≡ 0 → ⊥ = eqb-false (length xs) 0 (sym c.if-is-empty.ensures) in
-    c.in-ok-push-spaced.ensures ∙ ap (λ z. z ++ spaced (take (length xs - 1) (drop 1 xs))) c.in-ok-text.ensures.ok ∙ parts xs some
+    let some : length xs ≡ 0 → ⊥ = eqb-false (length xs) 0 (sym c.if-is_empty.ensures) in
+    c.in_ok-push_spaced.ensures ∙ ap (λ z. z ++ spaced (take (length xs - 1) (drop 1 xs))) c.in_ok-text.ensures.ok ∙ parts xs some

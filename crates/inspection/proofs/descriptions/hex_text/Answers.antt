@@ -14,6 +14,6 @@ digit c n h e = ap encode e ∙ encode_ascii (hex_digit n) (hex_small n h)
 pub returns : goal.returns
 returns c =
     let b = c.args.byte in
-    let high = digit c.hex-digit-high.result (b / 16) (omega arith) c.hex-digit-high.ensures in
-    let low = digit c.hex-digit-low.result (b % 16) (omega arith) c.hex-digit-low.ensures in
-    c.in-ok-text.ensures.ok ∙ ap (λ z. 92 ∷ 120 ∷ (z ++ encode c.hex-digit-low.result)) high ∙ ap (λ z. 92 ∷ 120 ∷ hex_digit (b / 16) ∷ z) low
+    let high = digit c.hex_digit-high.result (b / 16) (omega arith) c.hex_digit-high.ensures in
+    let low = digit c.hex_digit-low.result (b % 16) (omega arith) c.hex_digit-low.ensures in
+    c.in_ok-text.ensures.ok ∙ ap (λ z. 92 ∷ 120 ∷ (z ++ encode c.hex_digit-low.result)) high ∙ ap (λ z. 92 ∷ 120 ∷ hex_digit (b / 16) ∷ z) low

@@ -8,8 +8,8 @@ piece n = 32 ∷ decimal n
 
 pub loop-n-preserved : goal.loop-n-preserved
 loop-n-preserved c =
-    let text = pushed c.as-str.result.now refl c.in-ok-push-str.was c.push-str.ensures.bytes in
-    let part = c.as-str.ensures.value ∙ c.in-ok-part.ensures.ok in
+    let text = pushed c.as_str.result.now refl c.in_ok-push_str.was c.push_str.ensures.bytes in
+    let part = c.as_str.ensures.value ∙ c.in_ok-part.ensures.ok in
     joins_more piece (string_bytes c.args.text.now) c.args.numbers.now c.loop-n.n-index 0 c.loop-n-test.true c.loop-n.invariant (text ∙ ap (λ z. string_bytes c.loop-n.text ++ z) part)
 
 pub returns : goal.returns

@@ -3,4 +3,4 @@ use Rattle.inspection.proofs.reports.check.Goals as goal
 
 pub returns : goal.returns
 unfolding kind_of
-returns c = c.check-page.ensures
+returns c = c.check_page.ensures

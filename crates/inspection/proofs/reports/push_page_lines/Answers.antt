@@ -14,9 +14,9 @@ loop-index-preserved g c =
     let i = c.loop-index.index in
     let h : i < length pages = omega arith in
     let inv = c.loop-index.invariant in
-    let line = c.as-str.ensures.value ∙ c.in-ok-line.ensures in
-    let text = pushed c.as-str.result.now refl c.in-ok-push-str.was c.push-str.ensures.bytes in
-    (c.count.ensures ∙ tally_more pages i h c.read-page.ensures c.check-checked.ensures inv.0, lines_more pages i h c.read-page.ensures c.check-checked.ensures m.per (string_bytes c.loop-index.text) line text inv.1)
+    let line = c.as_str.ensures.value ∙ c.in_ok-line.ensures in
+    let text = pushed c.as_str.result.now refl c.in_ok-push_str.was c.push_str.ensures.bytes in
+    (c.count.ensures ∙ tally_more pages i h c.read_page.ensures c.check-checked.ensures inv.0, lines_more pages i h c.read_page.ensures c.check-checked.ensures m.per (string_bytes c.loop-index.text) line text inv.1)
 
 pub returns : goal.returns
 returns g c =
