@@ -3,7 +3,7 @@ use Rattle.std.specs.Slice.Iter.{iter_rest}
 use Rattle.bench_lines.specs.Replies.{rows_of}
 use Rattle.bench_lines.proofs.Printed.{unknown_more, row_more, row_none, rows_all}
 use Rattle.bench_lines.proofs.replies.rows.Goals as goal
-use Rattle.bench_lines.proofs.replies.rows.Goals.{in-None+in-ok-push-str, in-Some+in-Some-next+in-ok-push-row}
+use Rattle.bench_lines.proofs.replies.rows.Goals.{in-None+in_ok-push_str-in-None, in-Some+in-Some-next+in_ok-push_row-in-Some}
 
 pub returns-in_default : goal.returns-in_default
 returns-in_default c =
@@ -21,11 +21,11 @@ loop-line-preserved c =
     let replies = iter_rest c.loop-line.replies in
     let left = iter_rest c.match-line.replies in
     elim c.match-line.branch [
-      | in-None+in-ok-push-str w ↦ unknown_more lines i h text replies left w.in-None.is (ap iter_rest w.replies-is) (ap string_bytes w.text-is ∙ w.in-ok-push-str.ensures.bytes) c.loop-line.invariant
-      | in-Some+in-Some-next+in-ok-push-row w ↦
+      | in-None+in_ok-push_str-in-None w ↦ unknown_more lines i h text replies left w.in-None.is (ap iter_rest w.replies-is) (ap string_bytes w.text-is ∙ w.in_ok-push_str-in-None.ensures.bytes) c.loop-line.invariant
+      | in-Some+in-Some-next+in_ok-push_row-in-Some w ↦
           let reply = w.in-Some-next.reply.now in
           let next = w.in-Some-next.ensures.steps ∙ ap (λ r. reply ∷ iter_rest r) (sym w.replies-is) in
-          row_more lines i h text replies left w.in-Some.command reply w.in-Some.is next (ap string_bytes w.text-is ∙ w.in-ok-push-row.ensures) c.loop-line.invariant
+          row_more lines i h text replies left w.in-Some.command reply w.in-Some.is next (ap string_bytes w.text-is ∙ w.in_ok-push_row-in-Some.ensures) c.loop-line.invariant
     ]
 
 pub returns : goal.returns

@@ -15,49 +15,49 @@ use Rattle.calls.proofs.changes.delete.Goals as goal
 here : (r : Reading) (n s : ℕ) (b : Bool) → n ≡ s → is_none (shown (present r n)) ≡ b → is_none (shown (present r s)) ≡ b
 here r n s b e h = ap (λ k. is_none (shown (present r k))) (sym e) ∙ h
 
-pub returns-in-err-sector : goal.returns-in-err-sector
-returns-in-err-sector g c =
-    let h = c.in-err-sector.ensures in
+pub returns-in_err-sector : goal.returns-in_err-sector
+returns-in_err-sector g c =
+    let h = c.in_err-sector.ensures in
     record {
       kept = refl;
       same = refl;
-      follows = λ o. refused_at _ _ _ _ _ o tick_value 7 _ _ _ c.from-residual.ensures.1 h.0 refl (delete_sector _ _ _ h.1);
+      follows = λ o. refused_at _ _ _ _ _ o tick_value 7 _ _ _ c.from_residual.ensures.1 h.0 refl (delete_sector _ _ _ h.1);
     }
 
-pub returns-then-is-empty : goal.returns-then-is-empty
-returns-then-is-empty g c =
-    let s = c.in-ok-sector.ensures in
+pub returns-then-is_empty : goal.returns-then-is_empty
+returns-then-is_empty g c =
+    let s = c.in_ok-sector.ensures in
     record {
       kept = refl;
       same = refl;
       follows = λ o.
-          changed_so _ _ _ _ _ _ _ _ _ (delete_empty _ _ _ s.1 (here (reading (sayings _)) _ _ _ s.0 (c.is-empty.ensures _ _ _ o ∙ c.if-is-empty.true)))
+          changed_so _ _ _ _ _ _ _ _ _ (delete_empty _ _ _ s.1 (here (reading (sayings _)) _ _ _ s.0 (c.is_empty.ensures _ _ _ o ∙ c.if-is_empty.true)))
           (ap (λ n. granted (n ∷ []) []) (sym (clock_reads _ _ _ _ o))) refl o;
     }
 
-pub returns-in-err-check-ticks : goal.returns-in-err-check-ticks
-returns-in-err-check-ticks g c =
-    let h = c.in-err-check-ticks.ensures in
-    let s = c.in-ok-sector.ensures in
+pub returns-in_err-check_ticks : goal.returns-in_err-check_ticks
+returns-in_err-check_ticks g c =
+    let h = c.in_err-check_ticks.ensures in
+    let s = c.in_ok-sector.ensures in
     record {
       kept = refl;
       same = refl;
       follows = λ o.
-          refused_at _ _ _ _ _ o tick_value 11 _ _ _ c.from-residual-in-err-check-ticks.ensures.1 h.0 refl
-          (delete_ticks _ _ _ s.1 (here (reading (sayings _)) _ _ _ s.0 (c.is-empty.ensures _ _ _ o ∙ c.if-is-empty.false)) (clock_test _ _ _ _ o true h.1));
+          refused_at _ _ _ _ _ o tick_value 11 _ _ _ c.from_residual-in_err-check_ticks.ensures.1 h.0 refl
+          (delete_ticks _ _ _ s.1 (here (reading (sayings _)) _ _ _ s.0 (c.is_empty.ensures _ _ _ o ∙ c.if-is_empty.false)) (clock_test _ _ _ _ o true h.1));
     }
 
-pub returns-in-err-check-room : goal.returns-in-err-check-room
-returns-in-err-check-room g c =
-    let h = c.in-err-check-room.ensures in
-    let s = c.in-ok-sector.ensures in
+pub returns-in_err-check_room : goal.returns-in_err-check_room
+returns-in_err-check_room g c =
+    let h = c.in_err-check_room.ensures in
+    let s = c.in_ok-sector.ensures in
     record {
       kept = refl;
       same = refl;
       follows = λ o.
-          refused_at _ _ _ _ _ o tick_value 12 _ _ _ c.from-residual-in-err-check-room.ensures.1 h.0 refl
-          (delete_full _ _ _ s.1 (here (reading (sayings _)) _ _ _ s.0 (c.is-empty.ensures _ _ _ o ∙ c.if-is-empty.false)) (clock_test _ _ _ _ o false c.in-ok-check-ticks.ensures)
-          (room_test _ _ _ _ o _ _ _ true s.0 c.in-ok-sector.sector.last h.1));
+          refused_at _ _ _ _ _ o tick_value 12 _ _ _ c.from_residual-in_err-check_room.ensures.1 h.0 refl
+          (delete_full _ _ _ s.1 (here (reading (sayings _)) _ _ _ s.0 (c.is_empty.ensures _ _ _ o ∙ c.if-is_empty.false)) (clock_test _ _ _ _ o false c.in_ok-check_ticks.ensures)
+          (room_test _ _ _ _ o _ _ _ true s.0 c.in_ok-sector.sector.last h.1));
     }
 
 pub returns : goal.returns
@@ -65,21 +65,21 @@ returns g c =
     let m = g.C.Chip in
     let chip = c.args.chip.now in
     let ix = c.args.ix.now in
-    let e = c.add-deletion-made.ensures in
-    let s = c.in-ok-sector.ensures in
-    let n = c.in-ok-sector.sector.number in
+    let e = c.add_deletion-made.ensures in
+    let s = c.in_ok-sector.ensures in
+    let n = c.in_ok-sector.sector.number in
     let r = reading (sayings (m.pages chip)) in
-    let clock = c.in-ok-check-ticks.ensures in
-    let room = c.in-ok-check-room.ensures in
+    let clock = c.in_ok-check_ticks.ensures in
+    let room = c.in_ok-check_room.ensures in
     record {
       kept = e.kept;
       same = e.same;
       follows = λ o.
-          let fits = room_test (m.blocks chip) m.per (m.pages chip) ix o n n deleted false refl c.in-ok-sector.sector.last room in
+          let fits = room_test (m.blocks chip) m.per (m.pages chip) ix o n n deleted false refl c.in_ok-sector.sector.last room in
           let made = e.adds (can_change (m.blocks chip) m.per (m.pages chip) ix o clock) (ltb-false _ _ fits) in
           changed_by _ (m.blocks chip) m.per (m.pages chip) ix _ _ _ _ _
-          (delete_granted _ _ _ s.1 (here r _ _ _ s.0 (c.is-empty.ensures _ _ _ o ∙ c.if-is-empty.false)) (clock_test _ _ _ _ o false clock)
-          (room_test _ _ _ _ o _ _ _ false s.0 c.in-ok-sector.sector.last room))
-          (subst (λ z. Changed (m.blocks chip) m.per z c.add-deletion-made.result (m.pages c.add-deletion-made.new.chip) c.add-deletion-made.new.ix) (ap (λ k. add r k deleted) s.0) made)
-          c.clock-after.ensures;
+          (delete_granted _ _ _ s.1 (here r _ _ _ s.0 (c.is_empty.ensures _ _ _ o ∙ c.if-is_empty.false)) (clock_test _ _ _ _ o false clock)
+          (room_test _ _ _ _ o _ _ _ false s.0 c.in_ok-sector.sector.last room))
+          (subst (λ z. Changed (m.blocks chip) m.per z c.add_deletion-made.result (m.pages c.add_deletion-made.new.chip) c.add_deletion-made.new.ix) (ap (λ k. add r k deleted) s.0) made)
+          c.clock_after.ensures;
     }

@@ -7,8 +7,8 @@ returns-in-Ok g c =
     let e = c.in-Ok.ensures in
     let blocks = g.C.Chip.blocks c.args.chip.now in
     let per = g.C.Chip.per in
-    let size = c.in-ok-check-size.ensures in
-    let label = c.in-ok-label.ensures in
+    let size = c.in_ok-check_size.ensures in
+    let label = c.in_ok-label.ensures in
     let made = e.formats (two_blocks blocks per size) (few_pages blocks per size) in
     record {
       kept = e.kept;

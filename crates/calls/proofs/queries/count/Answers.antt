@@ -9,6 +9,6 @@ pub returns : goal.returns
 returns g c = λ o.
     let pages = g.C.Chip.pages c.args.chip.now in
     answer_told _ _ _ pages _ _
-    (ap (λ n. granted (c.needed-count.result ∷ n ∷ []) []) c.capacity-of.ensures
-    ∙ ap (λ n. granted (n ∷ capacity (g.C.Chip.blocks c.args.chip.now) g.C.Chip.per ∷ []) []) (c.needed-count.ensures.reads _ _ pages (consistent _ _ _ _ o)))
+    (ap (λ n. granted (c.needed_count.result ∷ n ∷ []) []) c.capacity_of.ensures
+    ∙ ap (λ n. granted (n ∷ capacity (g.C.Chip.blocks c.args.chip.now) g.C.Chip.per ∷ []) []) (c.needed_count.ensures.reads _ _ pages (consistent _ _ _ _ o)))
     (count_granted _ _)

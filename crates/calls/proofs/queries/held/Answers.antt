@@ -12,10 +12,10 @@ use Rattle.calls.proofs.Exits.{refused_told, answer_told, held_length, held_gran
 use Rattle.calls.proofs.Filled.{filled_up_lem}
 use Rattle.calls.proofs.queries.held.Goals as goal
 
-pub returns-in-err-check-length : goal.returns-in-err-check-length
-returns-in-err-check-length g c = λ o.
-    let h = c.in-err-check-length.ensures in
-    refused_told _ _ _ _ size_value _ 8 _ _ _ c.from-residual.ensures.1 h.0 refl (held_length _ _ _ h.1)
+pub returns-in_err-check_length : goal.returns-in_err-check_length
+returns-in_err-check_length g c = λ o.
+    let h = c.in_err-check_length.ensures in
+    refused_told _ _ _ _ size_value _ 8 _ _ _ c.from_residual.ensures.1 h.0 refl (held_length _ _ _ h.1)
 
 pub returns : goal.returns
 returns g c = λ o.
@@ -27,7 +27,7 @@ returns g c = λ o.
     let told = ap reverse (held_reads _ _ _ ix o) ∙ reverse-reverse held in
     answer_told _ _ _ pages _ _
     (ap (λ xs. granted (ix.held.count ∷ []) xs)
-    (filled_up_lem 8 ix.held.count held c.copy-from-slice.new.self c.fill.new.self (c.copy-from-slice.ensures.after ∙ c.as-slice.ensures) all
-    (c.fill.ensures.after (λ y e. e) ∙ ap (λ n. replicate n zero) (eqb-true _ 8 c.in-ok-check-length.ensures)))
+    (filled_up_lem 8 ix.held.count held c.copy_from_slice.new.self c.fill.new.self (c.copy_from_slice.ensures.after ∙ c.as_slice.ensures) all
+    (c.fill.ensures.after (λ y e. e) ∙ ap (λ n. replicate n zero) (eqb-true _ 8 c.in_ok-check_length.ensures)))
     ∙ ap (λ n. granted (n ∷ []) (filled 8 held)) (sym (count_reads _ _ _ ix o ∙ all)) ∙ ap (λ xs. granted (length (reading (sayings pages)).held ∷ []) (filled 8 xs)) (sym told))
-    (held_granted _ _ _ c.in-ok-check-length.ensures)
+    (held_granted _ _ _ c.in_ok-check_length.ensures)

@@ -9,24 +9,24 @@ use Rattle.calls.proofs.Exits.{refused_told, answer_told, since_in_sector, since
 use Rattle.calls.proofs.Remembered.{held_test}
 use Rattle.calls.proofs.queries.since_in.Goals as goal
 
-pub returns-in-err-sector : goal.returns-in-err-sector
-returns-in-err-sector g c = λ o.
-    let h = c.in-err-sector.ensures in
-    refused_told _ _ _ _ since_value _ 7 _ _ _ c.from-residual.ensures.1 h.0 refl (since_in_sector _ _ _ _ h.1)
+pub returns-in_err-sector : goal.returns-in_err-sector
+returns-in_err-sector g c = λ o.
+    let h = c.in_err-sector.ensures in
+    refused_told _ _ _ _ since_value _ 7 _ _ _ c.from_residual.ensures.1 h.0 refl (since_in_sector _ _ _ _ h.1)
 
-pub returns-in-err-check-held : goal.returns-in-err-check-held
-returns-in-err-check-held g c = λ o.
-    let h = c.in-err-check-held.ensures in
-    refused_told _ _ _ _ since_value _ 9 _ _ _ c.from-residual-in-err-check-held.ensures.1 h.0 refl
-    (since_in_unknown _ _ _ _ c.in-ok-sector.ensures.1 (held_test _ _ _ _ o _ false h.1))
+pub returns-in_err-check_held : goal.returns-in_err-check_held
+returns-in_err-check_held g c = λ o.
+    let h = c.in_err-check_held.ensures in
+    refused_told _ _ _ _ since_value _ 9 _ _ _ c.from_residual-in_err-check_held.ensures.1 h.0 refl
+    (since_in_unknown _ _ _ _ c.in_ok-sector.ensures.1 (held_test _ _ _ _ o _ false h.1))
 
 pub returns : goal.returns
 returns g c = λ o.
     let pages = g.C.Chip.pages c.args.chip.now in
-    let s = c.in-ok-sector.ensures in
-    let k = c.in-ok-check-held.ensures in
+    let s = c.in_ok-sector.ensures in
+    let k = c.in_ok-check_held.ensures in
     let r = reading (sayings pages) in
     answer_told _ _ _ pages _ _
     (ap (λ z. told since_value [] (Ok z)) c.born.ensures
-    ∙ ap (λ z. granted z []) (since_answer pages c.args.ix.now _ _ (c.data-in-state.ensures _ _ pages o k) ∙ ap (λ n. born_at (in_state r c.args.state.0 n)) s.0))
+    ∙ ap (λ z. granted z []) (since_answer pages c.args.ix.now _ _ (c.data_in_state.ensures _ _ pages o k) ∙ ap (λ n. born_at (in_state r c.args.state.0 n)) s.0))
     (since_in_granted _ _ _ _ s.1 (held_test _ _ _ _ o _ true k))
