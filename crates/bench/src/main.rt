@@ -3,14 +3,15 @@
 
 use bench_calls::runs::{BenchFault, run_input};
 use std::io::Read;
+use std::process::ExitCode;
 
-fn main(rt: HostRuntime) -> anyhow::Result<()> {
+fn main(rt: HostRuntime) -> anyhow::Result<ExitCode> {
     let mut input = Vec::new(rt.alloc());
     rt.stdin().read_to_end(&mut input)?;
     match run_input(rt.alloc(), &input) {
         Ok(text) => {
             print!(rt; "{text}")?;
-            Ok(())
+            Ok(ExitCode::SUCCESS)
         }
         Err(fault) => {
             let reason = match fault {
@@ -18,7 +19,7 @@ fn main(rt: HostRuntime) -> anyhow::Result<()> {
                 BenchFault::NotFormatted => "the chip can't be formatted",
             };
             eprintln!(rt; "bench: {reason}")?;
-            Err(reason.into())
+            Ok(ExitCode::FAILURE)
         }
     }
 }

@@ -7,6 +7,7 @@ use inspection::images::{left_over, words_of};
 use inspection::reports::report;
 use nand::Nand;
 use nor::Nor;
+use std::process::ExitCode;
 use std::{env, fs};
 
 fn print_report<C: Chip>(
@@ -32,16 +33,16 @@ fn inspect(rt: &HostRuntime, request: Request) -> anyhow::Result<()> {
     }
 }
 
-fn main(rt: HostRuntime) -> anyhow::Result<()> {
+fn main(rt: HostRuntime) -> anyhow::Result<ExitCode> {
     let arguments: Vec<String> = env::args(&rt)?.collect(rt.alloc())?;
     let Ok(request) = parse_arguments(&arguments) else {
         eprintln!(rt; "{USAGE}")?;
-        return Err(USAGE.into());
+        return Ok(ExitCode::FAILURE);
     };
-    let outcome = inspect(&rt, request);
-    if let Err(fault) = &outcome {
+    if let Err(fault) = inspect(&rt, request) {
         let file = request.file;
         eprintln!(rt; "inspect: {file}: {fault}")?;
+        return Ok(ExitCode::FAILURE);
     }
-    outcome
+    Ok(ExitCode::SUCCESS)
 }

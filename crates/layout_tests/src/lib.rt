@@ -80,7 +80,7 @@ mod tests {
         match parts.held {
             RegisterPart::Held { offset, bytes } => {
                 assert_eq!(rt; offset, 8);
-                assert_eq!(rt; bytes, &[3, 0, 0, 0]);
+                assert_eq!(rt; bytes, [3, 0, 0, 0].as_slice());
             }
             RegisterPart::Label {
                 offset: _,
@@ -90,7 +90,7 @@ mod tests {
         match parts.label {
             RegisterPart::Label { offset, bytes } => {
                 assert_eq!(rt; offset, 12);
-                assert_eq!(rt; bytes, b"K7");
+                assert_eq!(rt; bytes, b"K7".as_slice());
                 Ok(())
             }
             RegisterPart::Held {
@@ -312,8 +312,8 @@ mod tests {
             return Err(Fail::new("not a register"));
         };
         assert_eq!(rt; found.birth.number, 9);
-        assert_eq!(rt; found.held.as_slice(), &[3, 7]);
-        assert_eq!(rt; found.label.as_slice(), b"K7");
+        assert_eq!(rt; found.held.as_slice(), [3, 7].as_slice());
+        assert_eq!(rt; found.label.as_slice(), b"K7".as_slice());
         Ok(())
     }
 }

@@ -135,7 +135,8 @@ fn purges_what_was_born_later(rt: HostRuntime) -> Result<(), Fail> {
     check_page(&rt, &chip, 4, 2);
     check_page(&rt, &chip, 3, 0xFF);
     check_page(&rt, &chip, 1, 1);
-    assert_eq!(rt; ix.map[5], 4);
+    let page_of_5 = ix.map[5];
+    assert_eq!(rt; page_of_5, 4);
     assert_eq!(rt; number_of(purge(&mut chip, &mut ix, 3)), 0);
     assert_eq!(rt; chip.erases(), 1);
     Ok(())

@@ -50,8 +50,10 @@ fn mount_fills_the_tables(rt: HostRuntime) -> Result<(), Fail> {
     assert_eq!(rt; index.pages, 32);
     assert_eq!(rt; index.clock, 8);
     assert_eq!(rt; index.newest, 7);
-    assert_eq!(rt; index.map[5], 1);
-    assert_eq!(rt; index.map[6], 65535);
+    let page_of_5 = index.map[5];
+    assert_eq!(rt; page_of_5, 1);
+    let page_of_6 = index.map[6];
+    assert_eq!(rt; page_of_6, 65535);
     assert_eq!(rt; index.at(12).link, 8);
     assert_eq!(rt; index.at(1).link, 0);
     assert_eq!(rt; index.spare.0, 2);
