@@ -64,7 +64,7 @@ fn value_of(request: Request, reply: &Reply) -> Option<u32>
 }
 
 fn reply_to(made: &Made) -> Shown
-    ensures { result ≡ reply_to IfOk.entry.now }
+    ensures { result ≡ reply_to made.now }
 {
     Shown {
         number: made.reply.number,

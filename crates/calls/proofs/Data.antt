@@ -8,8 +8,6 @@ use Rattle.layout.specs.Page.{Meaning, Erased, Data, Deletion, Register as Sheet
 use Rattle.readings.specs.Versions.{Content, bytes, deleted, Version}
 use Rattle.readings.specs.Sayings.{Saying, nothing, version, register, bad, heard, said}
 use Rattle.tables.specs.declared.index.Index.{Index}
-use Rattle.tables.specs.declared.types.Kind.{Kind}
-use Rattle.tables.specs.declared.types.Kind.TheVariants as kind
 use Rattle.tables.specs.Records.{unused, kind_of, Agrees}
 use Rattle.keeping.specs.Opened.{Opened}
 use Rattle.noting.specs.Lookups.{Shows}

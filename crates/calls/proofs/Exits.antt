@@ -1,11 +1,11 @@
 -- How a call ends: the rule of the call, where a check hits, and where none does.
-use Rattle.std.proofs.Common.{◌≡◌, ℕ, Bool, true, false, not, eqb, ltb, List, [], ◌∷◌, reverse, length, IsErrAnd, Ok, Err, Result, sym, refl, ap, ◌∙◌}
+use Rattle.std.proofs.Common.{◌≡◌, ℕ, true, false, eqb, ltb, List, [], ◌∷◌, reverse, length, IsErrAnd, Err, Result, sym, refl, ap, ◌∙◌}
 use Rattle.std.proofs.lemmas.Result.{err_from_is_err_and}
 use Rattle.chip.specs.Pages.{Page}
-use Rattle.readings.specs.Versions.{Content, bytes, deleted, has, Reading, add}
+use Rattle.readings.specs.Versions.{bytes, deleted, has, Reading, add}
 use Rattle.readings.specs.Sayings.{sayings}
 use Rattle.readings.specs.Reading.{reading}
-use Rattle.readings.specs.Changes.{last_clock, last_sector, frozen, released, reverted, backed, present, in_state}
+use Rattle.readings.specs.Changes.{last_clock, frozen, released, reverted, backed, present, in_state}
 use Rattle.readings.specs.Mount.{capacity}
 use Rattle.tables.specs.declared.index.Index.{Index}
 use Rattle.keeping.specs.Opened.{Opened}

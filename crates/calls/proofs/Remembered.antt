@@ -1,5 +1,5 @@
 -- What memory has of the reading of an open store.
-use Rattle.std.proofs.Common.{◌≡◌, ℕ, ◌<◌, ◌≤◌, max, Bool, false, eqb, ltb, List, [], ◌∷◌, reverse, length, Result, sym, refl, ap, ◌∙◌, inl, inr, arith}
+use Rattle.std.proofs.Common.{◌≡◌, ℕ, ◌<◌, ◌≤◌, Bool, false, eqb, ltb, List, [], ◌∷◌, reverse, length, Result, sym, refl, ap, ◌∙◌, inl, inr, arith}
 use Rattle.chip.specs.Pages.{Page}
 use Rattle.limits.specs.Values.{held_of, label_of}
 use Rattle.std.proofs.lemmas.List.{length-reverse, length-take-le}

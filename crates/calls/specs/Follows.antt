@@ -1,10 +1,9 @@
 -- What a call makes of an open store: the chip's pages, and what is in memory.
-use Rattle.std.specs.Prelude.{◌≡◌, ℕ, suc, ◌+◌, ◌<◌, ◌≤◌, Bool, true, false, List, [], ◌∷◌, length, Result, ◌≢◌}
+use Rattle.std.specs.Prelude.{◌≡◌, ℕ, ◌+◌, List, [], ◌∷◌, ◌≢◌}
 use Rattle.chip.specs.Pages.{Page}
 use Rattle.readings.specs.Sayings.{sayings}
 use Rattle.readings.specs.Reading.{must, reading}
 use Rattle.readings.specs.Mount.{capacity}
-use Rattle.refusals.specs.declared.types.Refusal.{Refusal}
 use Rattle.tables.specs.declared.index.Index.{Index}
 use Rattle.moving.specs.Kept.{all_stale}
 use Rattle.keeping.specs.Opened.{Opened}

@@ -1,21 +1,18 @@
 -- Every history of a store is a run by the rules of the calls.
-use Rattle.std.proofs.Common.{◌≡◌, ℕ, zero, suc, Bool, true, false, cond, eqb, List, [], ◌∷◌, MatchBool, sym, refl, ap, ◌∙◌, subst, arith}
+use Rattle.std.proofs.Common.{◌≡◌, ℕ, Bool, true, false, cond, eqb, List, [], ◌∷◌, MatchBool, sym, refl, ap, ◌∙◌, subst}
 use Rattle.std.proofs.lemmas.Bool.{both_ways}
-use Rattle.readings.specs.Versions.{Reading}
 use Rattle.readings.specs.Sayings.{sayings}
 use Rattle.readings.specs.Reading.{reading}
-use Rattle.readings.specs.Changes.{fresh}
-use Rattle.readings.specs.Mount.{Verdict, plain, mount_verdict, capacity}
+use Rattle.readings.specs.Mount.{Verdict, mount_verdict, capacity}
 use Rattle.tables.specs.Tells.{Accepted}
 use Rattle.keeping.specs.Opened.{Opened}
-use Rattle.rules.specs.Calls.{Call, mount, close, count, clean, freeze, open_slip, write, delete, read, look, since, since_in, ask_held, ask_label, release, revert, keep_slip, back_slip, Answer, Outcome, refused, granted, rule}
+use Rattle.rules.specs.Calls.{Call, mount, close, count, clean, freeze, open_slip, write, delete, read, look, since, since_in, ask_held, ask_label, release, revert, keep_slip, back_slip, Answer, refused, granted, rule}
 use Rattle.line.specs.Line.{Event, is_granted, effect_of, opens}
-use Rattle.line.specs.Law.{Lawful}
-use Rattle.line.specs.Runs.{State, cleans, Step, StepOpen, StepClosed, closed_answer, Run}
+use Rattle.line.specs.Runs.{State, cleans, Step, StepOpen, StepClosed, Run}
 use Rattle.line.proofs.Judge.{every_run_lawful}
 use Rattle.line.proofs.Reverting.{revert_equation}
 use Rattle.store.specs.Views.{View, reading_of, capacity_of, Sound, SameSize}
-use Rattle.store.specs.Deeds.{Follows, Changes, Asks, Loses, Cleans, SameChip, Closes, mount_answer, Mounted, Mounts, Formatted, Does, refused_with}
+use Rattle.store.specs.Deeds.{Follows, Changes, Asks, Cleans, SameChip, Closes, mount_answer, Mounts, Does, refused_with}
 use Rattle.history.specs.History.{History, EveryHistoryIsLawful, EveryRevertIsTheEquation}
 use Rattle.history.proofs.Queries.{count_leaves, read_leaves, look_leaves, since_leaves, since_in_leaves, held_leaves, label_leaves}
 

@@ -2,7 +2,7 @@
 use Rattle.std.proofs.Common.{◌≡◌, ℕ, Bool, cond, not, eqb, ltb, List, length, refl}
 use Rattle.std.proofs.lemmas.Bool.{cond_both}
 use Rattle.readings.specs.Versions.{has, Reading}
-use Rattle.rules.specs.Calls.{Call, count, read, look, since, since_in, ask_held, ask_label, Outcome, rule}
+use Rattle.rules.specs.Calls.{count, read, look, since, since_in, ask_held, ask_label, Outcome, rule}
 
 -- A check before what leaves the reading.
 leaves : (r : Reading) (test : Bool) (x y : Outcome) → x.left ≡ r → y.left ≡ r → (cond test x y).left ≡ r

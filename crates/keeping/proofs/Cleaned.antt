@@ -5,7 +5,7 @@ use Rattle.chip.specs.Pages.{Page}
 use Rattle.limits.specs.Values.{held_of, label_of}
 use Rattle.readings.specs.Versions.{Version, Reading}
 use Rattle.readings.specs.Sorted.{In, Enough}
-use Rattle.readings.specs.Sayings.{Register, Saying, version, register, bad, said, sayings}
+use Rattle.readings.specs.Sayings.{Register, Saying, version, bad, said, sayings}
 use Rattle.readings.specs.Reading.{versions, clock_of, latest, held_by, reading, must, Told}
 use Rattle.readings.specs.Links.{Linked}
 use Rattle.readings.specs.Mount.{capacity}

@@ -1,6 +1,6 @@
 -- What an open store has in memory gives what moving pages needs.
 use Rattle.std.proofs.Common.{◌≡◌, ℕ, zero, suc, ◌<◌, ◌≤◌, true, false, ◌&&◌, ◌||◌, eqb, ltb, leb, ◌⊎◌, List, [], ◌∷◌, length, get_or, sym, refl, ap, ◌∙◌, subst, inl, inr, arith}
-use Rattle.std.proofs.lemmas.Bool.Decides.{nat_tests, when_true, when_false}
+use Rattle.std.proofs.lemmas.Bool.Decides.{when_true, when_false}
 use Rattle.std.proofs.lemmas.Bool.{cases_Bool, cases_eq, cases_lt, eqb-true, eq-eqb, ne_eqb, le-leb, leb-true, lt-ltb, le-ltb, and_parts, and_from, or_cases, or_left, or_right, cond-true, cond-false, both_ways}
 use Rattle.chip.specs.Pages.{Page}
 use Rattle.limits.specs.Numbers.{rising}

@@ -9,8 +9,7 @@ use Rattle.chip.specs.Pages.{is_erased}
 use Rattle.limits.specs.Numbers.{rising}
 use Rattle.layout.specs.Bytes.{all_zero, u16_at, u32_at, words}
 use Rattle.layout.specs.Parts.{register_kinds, end_of, part_at}
-use Rattle.layout.specs.declared.parts.PartKind.TheVariants as kind
-use Rattle.layout.specs.Page.{go_together, tag_at, tag_sound, tagged_meaning, register_with_end, meaning}
+use Rattle.layout.specs.Page.{go_together, tag_at, tag_sound, tagged_meaning, register_with_end}
 use Rattle.layout.proofs.RegisterRead.{bounds}
 use Rattle.layout_write.specs.Written.{le32, pairs_from, whole, padded, register_data}
 use Rattle.layout_write.specs.Laws.{Rewritten, WrittenAgain}

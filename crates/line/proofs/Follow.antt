@@ -9,7 +9,7 @@ use Rattle.readings.specs.Changes.{frozen, released, reverted, backed, present, 
 use Rattle.readings.proofs.Lists.{first_ext, all_of, keep_all, has_keep}
 use Rattle.readings.proofs.Settle.{settle_fewer, settle_add, settle_cut, settle_freeze, youngest_kept}
 use Rattle.line.specs.Line.{Item, mark, entries, marks, before, unmark, last_of, needs, entered, Effect, extend, first_or, tells_clock}
-use Rattle.line.proofs.Order.{number, Falls, falls_more, births_below, marks_below, before_first, needs_same, cut_entries, cut_marks, back_marks, falls_before, unmark_entries, unmark_marks, falls_unmark}
+use Rattle.line.proofs.Order.{Falls, falls_more, births_below, marks_below, before_first, needs_same, cut_entries, cut_marks, back_marks, falls_before, unmark_entries, unmark_marks, falls_unmark}
 use Rattle.line.proofs.Steps.{StepBy, refuses, asks, cleaned, closes, mounts, finds_none, writes, deletes, freezes, ends, reverts, backs}
 
 pub record Follows (r : Reading) (l : List Item) : Type 0 where

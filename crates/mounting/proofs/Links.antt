@@ -15,7 +15,7 @@ use Rattle.readings.specs.Mount.{births, distinct}
 use Rattle.readings.specs.Links.{IsLast, IsLink, Linked}
 use Rattle.readings.proofs.Settle.{has_any, any_has}
 use Rattle.readings.proofs.Meaning.{words_mean}
-use Rattle.mounting.specs.Keys.{key, key_of, keys, NextBirth}
+use Rattle.mounting.specs.Keys.{key, key_of, NextBirth}
 use Rattle.mounting.specs.Recorded.{LinkBy}
 use Rattle.mounting.specs.Needed.{any_from, needed_by}
 use Rattle.mounting.proofs.Distinct.{same_bool}

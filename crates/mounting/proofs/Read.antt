@@ -11,7 +11,7 @@ use Rattle.layout.specs.declared.pages.Tag.TheVariants as tag
 use Rattle.scan.specs.Scan as scan
 use Rattle.scan.specs.Scan.{if_bad, lowest_bad, youngest, tags_read, unless_bad}
 use Rattle.readings.specs.Versions.{bytes, deleted, any}
-use Rattle.readings.specs.Sayings.{Register, Saying, version, register, bad, heard, said, sayings}
+use Rattle.readings.specs.Sayings.{Register, Saying, version, register, heard, said, sayings}
 use Rattle.readings.specs.Reading.{latest, younger}
 use Rattle.readings.specs.Mount.{Verdict, bad_first, bad_from, is_register}
 use Rattle.mounting.specs.Tagged.{plain_version, bare, tag_saying, tag_sayings, Tagged}

@@ -7,7 +7,7 @@ use Rattle.readings.specs.Sayings.{Saying, nothing, version, register, bad}
 use Rattle.tables.specs.Records.{unused, Agrees}
 use Rattle.tables.specs.declared.types.Kind.{Kind}
 use Rattle.tables.specs.declared.types.Record.{Record}
-use Rattle.mounting.specs.Keys.{NextBirth, keys}
+use Rattle.mounting.specs.Keys.{NextBirth}
 
 -- The record of a version; a link to no birth is 0.
 abbrev pub version_record : Kind → limits.Version → Option ℕ → Record

@@ -14,7 +14,6 @@ use Rattle.readings.specs.Reading.{stays}
 use Rattle.readings.specs.Mount.{is_nothing}
 use Rattle.readings.specs.Links.{stays_by}
 use Rattle.tables.specs.declared.index.Index.{Index}
-use Rattle.tables.specs.declared.types.Kind.TheVariants as kind
 use Rattle.tables.specs.declared.types.Record.{Record}
 use Rattle.tables.specs.Records.{unused, kind_of, Agrees}
 use Rattle.moving.specs.Sound.{Shows, Sound, LastStay, staying, by_kind, record_stays, page_stays}

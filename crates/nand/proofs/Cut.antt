@@ -1,10 +1,9 @@
 -- Laws of `pages_of`: how a list of bytes is cut into pages.
-use Rattle.std.proofs.Common.{◌≡◌, ℕ, zero, suc, ◌+◌, ◌-◌, ◌*◌, ◌/◌, ◌<◌, ◌≤◌, min, List, [], ◌∷◌, ◌++◌, length, get_or, take, drop, set, replicate, sym, refl, ap, ◌∙◌, append_assoc, mul-le-mul_right, suc-mul, arith, length-append, length-drop, length-take}
+use Rattle.std.proofs.Common.{◌≡◌, ℕ, zero, suc, ◌+◌, ◌-◌, ◌*◌, ◌/◌, ◌<◌, ◌≤◌, min, List, [], ◌∷◌, ◌++◌, length, get_or, take, drop, set, replicate, sym, refl, ap, ◌∙◌, mul-le-mul_right, suc-mul, arith, length-append, length-drop, length-take}
 use base.Fml.{GName}
 use borrow.Rule.Slice.PartMut.{put_mid}
 use lib.ListN.{length-replicate}
-use lib.Seq.{paste}
-use Rattle.std.proofs.lemmas.List.{drop-drop, take_at, drop_at, take-append-le, drop-append-le, set_split, take-take, drop-take, length-take-le, take-replicate, drop-replicate, take-append-drop, take_all}
+use Rattle.std.proofs.lemmas.List.{drop-drop, take_at, drop_at, take-append-le, drop-append-le, set_split, length-take-le, take-replicate, drop-replicate, take-append-drop, take_all}
 use Rattle.std.proofs.lemmas.Slice.{drop-put_mid}
 use Rattle.chip.specs.Pages.{erased_page}
 use Rattle.nand.specs.Image.{pages_of, nand_blocks, nand_pages}

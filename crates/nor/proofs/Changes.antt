@@ -1,20 +1,19 @@
 -- What a program and an erase do to the pages.
-use Rattle.std.proofs.Common.{◌≡◌, ℕ, zero, suc, ◌+◌, ◌-◌, ◌*◌, ◌/◌, ◌%◌, ◌<◌, ◌≤◌, min, true, ◌≢◌, ◌⊎◌, List, [], ◌++◌, length, get_or, take, drop, set, replicate, sym, refl, ap, ◌∙◌, ⊎_elim, arith, length-append, length-drop, length-set, length-take}
+use Rattle.std.proofs.Common.{◌≡◌, ℕ, zero, suc, ◌+◌, ◌-◌, ◌*◌, ◌/◌, ◌%◌, ◌<◌, ◌≤◌, min, ◌≢◌, ◌⊎◌, List, [], ◌++◌, length, get_or, take, drop, set, replicate, sym, refl, ap, ◌∙◌, ⊎_elim, arith, length-append, length-drop, length-set, length-take}
 use base.Fml.{GName}
 use borrow.Rule.Slice.PartMut.{put_mid}
 use lib.Bits.{bit_and}
 use lib.ListN.{length-replicate}
-use Rattle.std.specs.List.{range_with_len}
-use Rattle.std.proofs.lemmas.Nat.{and_comm, and_mask, div-mul-add, mod-mul-add}
+use Rattle.std.proofs.lemmas.Nat.{and_comm, and_mask}
 use Rattle.std.proofs.lemmas.List.FromFn.{get_or-map-range_with_len}
-use Rattle.std.proofs.lemmas.List.{ext_get_or, get_or-set_same, get_or-set_other, drop-set-lt, get_or_append_left, get_or-append_right, get_or-take, get_or-drop, get_or-replicate, length-take-le}
+use Rattle.std.proofs.lemmas.List.{get_or-set_same, get_or-set_other, drop-set-lt, get_or_append_left, get_or-append_right, get_or-take, get_or-drop, get_or-replicate, length-take-le}
 use Rattle.std.proofs.lemmas.Slice.{drop-put_mid}
-use Rattle.std.proofs.lemmas.Bool.{cases_eq, cases_lt}
-use Rattle.chip.specs.Pages.{Page, erased_page}
+use Rattle.std.proofs.lemmas.Bool.{cases_eq}
+use Rattle.chip.specs.Pages.{erased_page}
 use Rattle.chip.proofs.Pagewise.{set_pagewise, erase_pagewise}
 use Rattle.nor.specs.Image.{page_byte, nor_blocks, nor_page, nor_pages, word_at}
-use Rattle.nor.specs.Program.{pair_of, and_into, anded, programmed}
-use Rattle.nor.specs.Shaped.{length_page, length_nor}
+use Rattle.nor.specs.Program.{pair_of, anded, programmed}
+use Rattle.nor.specs.Shaped.{length_nor}
 use Rattle.nor.proofs.Places.{word_below, word_apart}
 use Rattle.nor.proofs.Words.{word_of, word_of_lem, low_byte, high_byte, by_pairs, page_bytewise, page_same, ones_page}
 

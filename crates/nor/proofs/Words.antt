@@ -1,17 +1,14 @@
 -- A page by the words that hold its pairs of bytes.
-use Rattle.std.proofs.Common.{◌≡◌, ℕ, zero, suc, ◌+◌, ◌-◌, ◌*◌, ◌/◌, ◌%◌, ◌<◌, ◌≤◌, true, false, cond, eqb, ◌≢◌, List, [], length, get_or, set, sym, refl, ap, ◌∙◌, ⊎_elim, arith, length-set}
-use lib.Bits.{bit_and}
-use Rattle.std.specs.List.{range_with_len}
-use Rattle.std.proofs.lemmas.Nat.{div-mul-add, mod-mul-add, and_comm, and_mask}
-use Rattle.std.proofs.lemmas.List.FromFn.{fill_by_all, get_or-map-range_with_len, length-map-range_with_len}
-use Rattle.std.proofs.lemmas.List.{ext_get_or, get_or-set_same, get_or-set_other}
-use Rattle.std.proofs.lemmas.Bool.{cases_lt, cases_eq, cases_Bool, eq-eqb, ne_eqb, true≢false}
+use Rattle.std.proofs.Common.{◌≡◌, ℕ, ◌+◌, ◌*◌, ◌/◌, ◌%◌, ◌<◌, true, false, List, length, get_or, set, sym, ap, ◌∙◌, ⊎_elim, arith, length-set}
+use Rattle.std.proofs.lemmas.Nat.{div-mul-add, mod-mul-add}
+use Rattle.std.proofs.lemmas.List.FromFn.{fill_by_all, get_or-map-range_with_len}
+use Rattle.std.proofs.lemmas.List.{get_or-set_same, get_or-set_other}
+use Rattle.std.proofs.lemmas.Bool.{cases_eq, cases_Bool, eq-eqb, ne_eqb}
 use Rattle.chip.specs.Pages.{Page, is_erased, erased_page}
 use Rattle.chip.proofs.Pagewise.{erased_bytewise, erased_byte, erased_page_bytewise}
-use Rattle.nor.specs.Image.{byte_at, offset_of, page_byte, nor_blocks, nor_page, nor_pages, word_at}
-use Rattle.nor.specs.Program.{pair_of, and_into, anded, programmed}
-use Rattle.nor.specs.Shaped.{length_page, length_nor}
-use Rattle.nor.proofs.Places.{byte_of_pair, word_below, word_apart}
+use Rattle.nor.specs.Image.{page_byte, nor_page, word_at}
+use Rattle.nor.specs.Shaped.{length_page}
+use Rattle.nor.proofs.Places.{byte_of_pair}
 
 -- The word of the i-th pair of page n.
 abbrev pub word_of : ℕ → ℕ → ℕ

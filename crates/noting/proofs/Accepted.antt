@@ -6,7 +6,7 @@ use Rattle.chip.specs.Pages.{Page}
 use Rattle.readings.specs.Versions.{any, has}
 use Rattle.readings.specs.Sorted.{In}
 use Rattle.readings.specs.Sayings.{Register, Saying, nothing, version, register, bad, said, sayings}
-use Rattle.readings.specs.Reading.{birth_of, versions, latest, reading}
+use Rattle.readings.specs.Reading.{birth_of, latest, reading}
 use Rattle.readings.specs.Mount.{capacity, Verdict, plain, bad_from, is_register, is_nothing, with_birth, births, distinct, all_nothing, erased_block, is_store}
 use Rattle.noting.specs.Consistent.{Lone, ConsistentAccepted}
 use Rattle.noting.proofs.Sayings.{said_erased, says_at}

@@ -1,12 +1,11 @@
 -- Lists of held numbers.
-use Rattle.std.proofs.Common.{◌≡◌, ℕ, ◌+◌, ◌<◌, ◌≤◌, Bool, true, false, not, ◌&&◌, ◌||◌, eqb, ltb, leb, List, [], ◌∷◌, ◌++◌, length, get_or, take, drop, set, sym, refl, ap, ◌∙◌, arith}
+use Rattle.std.proofs.Common.{◌≡◌, ℕ, ◌+◌, ◌<◌, ◌≤◌, Bool, true, false, ◌&&◌, ◌||◌, eqb, ltb, leb, List, [], ◌∷◌, ◌++◌, length, get_or, take, drop, set, sym, refl, ap, ◌∙◌, arith}
 use Rattle.std.proofs.lemmas.List.{at_drop_more, at_drop_all, append_assoc, append-nil, take_more_set, get_or-take, length-take-le}
 use Rattle.std.proofs.lemmas.Bool.{and_parts, ltb-true, leb-true, lt-ltb, le-leb}
 use Rattle.limits.specs.declared.types.Held.{Held}
 use Rattle.limits.specs.Numbers.{rising}
 use Rattle.limits.specs.Values.{held_of}
 use Rattle.readings.specs.Versions.{put, keep, any, has}
-use Rattle.noting.specs.Holding.{without}
 
 -- A number above all goes after them.
 pub rising_push : (low top n : ℕ) (ns : List ℕ) → rising low top ns ≡ true → low < n → top < n → rising low n (ns ++ (n ∷ [])) ≡ true

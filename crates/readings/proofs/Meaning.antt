@@ -1,14 +1,13 @@
-use Rattle.std.proofs.Common.{◌≡◌, ℕ, suc, ◌+◌, ◌<◌, ◌≤◌, Bool, true, false, cond, not, ◌&&◌, ◌||◌, eqb, ltb, leb, ◌⊎◌, ◌↔◌, List, [], ◌∷◌, length, sym, refl, ap, ◌∙◌, subst, inl, inr, arith}
+use Rattle.std.proofs.Common.{◌≡◌, ℕ, suc, ◌≤◌, Bool, true, false, eqb, leb, ◌⊎◌, List, [], ◌∷◌, length, sym, refl, ap, ◌∙◌, inl, inr, arith}
 use mathlib.Core.Option.{Option, none, some}
 use Prim.Native.Nat.{compare, Ordering}
-use Rattle.std.proofs.lemmas.Bool.Decides.{nat_tests}
-use Rattle.std.proofs.lemmas.Bool.{eqb-true, eq-eqb, leb-true, le-leb, and_parts, and_from, or_cases}
-use Rattle.readings.specs.Versions.{Version, Bound, now, upto, within, of, put, choose, first, is, youngest, youngest_of, keep, has, needed, settle, Reading}
-use Rattle.readings.specs.Sorted.{In, placed, insert, sort, reading_of, Apart, Enough}
+use Rattle.std.proofs.lemmas.Bool.{eqb-true, eq-eqb, leb-true, le-leb, and_parts, and_from}
+use Rattle.readings.specs.Versions.{Version, Bound, now, upto, of, put, choose, first, is, youngest, youngest_of, keep, has, needed, settle}
+use Rattle.readings.specs.Sorted.{In, placed, insert, sort}
 use Rattle.readings.specs.Meaning.{Within, IsYoungest, YoungestMeans, NeededMeans, Once, CountedInPlace, SameVersions, WordsMean}
 use Rattle.readings.proofs.Lists.{first_in, first_passes}
-use Rattle.readings.proofs.Settle.{Counts, needed_at, needed_by_lem, youngest_needed}
-use Rattle.readings.proofs.Sorted.{Desc, in_sort, sort_in, in_insert, desc_sort}
+use Rattle.readings.proofs.Settle.{Counts, needed_at, youngest_needed}
+use Rattle.readings.proofs.Sorted.{Desc, in_sort, sort_in, desc_sort}
 use Rattle.readings.proofs.PageLaws.{pages_read}
 
 pub of_true : (b : Bound) (s : ℕ) (v : Version) → of b s v ≡ true → (v.sector ≡ s) × Within b v.birth

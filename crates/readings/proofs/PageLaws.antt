@@ -1,13 +1,12 @@
 -- What the pages of a chip read as.
-use Rattle.std.proofs.Common.{◌≡◌, ℕ, suc, ◌<◌, ◌≤◌, Bool, true, false, eqb, ltb, leb, ◌⊎◌, List, [], ◌∷◌, sym, refl, ap, ◌∙◌, subst, inl, inr, arith}
-use Prim.Native.Nat.{compare, Ordering}
+use Rattle.std.proofs.Common.{◌≡◌, ℕ, suc, ◌<◌, Bool, true, eqb, leb, List, [], ◌∷◌, sym, refl, ap, ◌∙◌, inl, inr, arith}
 use Rattle.std.specs.List.{AllByRecursion as All}
 use Rattle.std.proofs.lemmas.Bool.Decides.{nat_tests}
 use Rattle.std.proofs.lemmas.Bool.{eqb-true, or_cases, and_parts}
-use Rattle.readings.specs.Versions.{Content, Version, put, keep, any, has, needed, settle, Reading, add, leave}
-use Rattle.readings.specs.Sorted.{In, placed, insert, sort, reading_of, Apart, Born, Enough, NeededSuffice, PageAdded, PagesCut, PagesReleased, PagesFrozen, PagesRead}
-use Rattle.readings.proofs.Lists.{keep_ext, all_of, all_in, keep_all, has_keep}
-use Rattle.readings.proofs.Sorted.{Desc, in_sort, sort_in, in_keep, keep_in, desc_sort, desc_keep, desc_ext}
+use Rattle.readings.specs.Versions.{Version, keep, any, has, settle}
+use Rattle.readings.specs.Sorted.{In, insert, sort, reading_of, Apart, NeededSuffice, PageAdded, PagesCut, PagesReleased, PagesFrozen, PagesRead}
+use Rattle.readings.proofs.Lists.{all_in, keep_all, has_keep}
+use Rattle.readings.proofs.Sorted.{in_sort, sort_in, in_keep, keep_in, desc_sort, desc_keep, desc_ext}
 use Rattle.readings.proofs.Settle.{settle_drop, settle_fewer, settle_add, settle_cut, settle_freeze}
 
 -- the births that stand in a list

@@ -1,14 +1,14 @@
 -- The needed versions: what may be dropped, added and cut.
-use Rattle.std.proofs.Common.{◌≡◌, ℕ, suc, ◌+◌, ◌<◌, ◌≤◌, Bool, true, false, cond, not, ◌&&◌, ◌||◌, eqb, ltb, leb, ◌⊎◌, List, [], ◌∷◌, sym, refl, ap, ◌∙◌, subst, inl, inr, true≢false, arith}
+use Rattle.std.proofs.Common.{◌≡◌, ℕ, ◌<◌, ◌≤◌, Bool, true, false, ◌&&◌, ◌||◌, eqb, leb, List, [], ◌∷◌, sym, refl, ap, ◌∙◌, inl, inr, true≢false, arith}
 use mathlib.Core.Bool.{and_comm}
-use mathlib.Core.Option.{Option, none, some}
+use mathlib.Core.Option.{some}
 use Rattle.std.specs.List.{AllByRecursion as All}
 use Rattle.std.proofs.lemmas.Bool.Decides.{nat_tests}
 use Rattle.std.proofs.ByRecursion.{All-weaker}
 use Rattle.std.proofs.lemmas.Bool.{eqb-true, eq-eqb, or_cases, or_left, or_right, and_parts}
-use Rattle.readings.specs.Versions.{put, keep, any, choose, first, has, Version, Bound, now, upto, within, of, youngest, is, youngest_of, needed, settle}
+use Rattle.readings.specs.Versions.{keep, any, choose, first, has, Version, Bound, now, upto, within, of, youngest, is, youngest_of, needed, settle}
 use Rattle.readings.specs.Sorted.{In}
-use Rattle.readings.proofs.Lists.{first_keep, keep_ext, first_ext, keep_keep, first_of_keep, all_of, all_in, first_passes, first_in, any_ext}
+use Rattle.readings.proofs.Lists.{first_keep, keep_ext, first_ext, keep_keep, first_of_keep, all_of, all_in, first_passes, first_in}
 
 same_bool : (a b : Bool) → (a ≡ true → b ≡ true) → (b ≡ true → a ≡ true) → a ≡ b
 same_bool a b f g = grind arith

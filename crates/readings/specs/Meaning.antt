@@ -1,7 +1,7 @@
 -- What the words say of pages in any order: the youngest, the needed, their number, and what may be done to pages unseen.
-use Rattle.std.specs.Prelude.{◌≡◌, ℕ, suc, ◌≤◌, Bool, true, false, ◌⊎◌, ◌↔◌, List, [], ◌∷◌, length, ◌≢◌}
-use Rattle.std.proofs.Math.Option.{Option, none, some}
-use Rattle.readings.specs.Versions.{Version, Bound, now, upto, youngest, keep, has, needed, settle, Reading}
+use Rattle.std.specs.Prelude.{◌≡◌, ℕ, ◌≤◌, true, ◌⊎◌, ◌↔◌, List, [], ◌∷◌, length, ◌≢◌}
+use Rattle.std.proofs.Math.Option.{some}
+use Rattle.readings.specs.Versions.{Version, Bound, now, upto, youngest, keep, has, needed, settle}
 use Rattle.readings.specs.Sorted.{In, sort, reading_of, Apart}
 
 abbrev pub Within : Bound → ℕ → Type 0

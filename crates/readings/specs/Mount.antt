@@ -1,7 +1,7 @@
 -- What mount answers of a chip, over its pages.
 use Rattle.std.specs.Prelude.{ℕ, zero, suc, ◌+◌, ◌-◌, ◌*◌, Bool, true, false, cond, not, ◌&&◌, ◌||◌, List, [], ◌∷◌, length, take, drop, nat_lt}
 use Rattle.chip.specs.Pages.{Page}
-use Rattle.readings.specs.Versions.{any, has, Reading}
+use Rattle.readings.specs.Versions.{any, has}
 use Rattle.readings.specs.Sayings.{Saying, nothing, version, register, bad, sayings}
 use Rattle.readings.specs.Reading.{birth_of, reading}
 

@@ -2,7 +2,7 @@
 use Rattle.std.specs.Prelude.{ℕ, List, map, take}
 use Rattle.chip.specs.Pages.{Page}
 use Rattle.layout.specs.Page.{Meaning, Erased, Data, Deletion, Register as Sheet, Bad, meaning}
-use Rattle.readings.specs.Versions.{Content, bytes, deleted, Version}
+use Rattle.readings.specs.Versions.{bytes, deleted, Version}
 
 -- What a register page says: its held numbers rise.
 pub record Register : Type 0 where

@@ -1,5 +1,5 @@
 -- What the pages of a chip read as: pages in any order, with or without what is needed no more, and some of them more than once.
-use Rattle.std.specs.Prelude.{◌≡◌, ℕ, suc, ◌≤◌, Bool, true, false, not, ◌⊎◌, List, [], ◌∷◌, nat_le}
+use Rattle.std.specs.Prelude.{◌≡◌, ℕ, suc, ◌≤◌, Bool, true, ◌⊎◌, List, [], ◌∷◌, nat_le}
 use Prim.Native.Nat.{compare, Ordering}
 use Rattle.readings.specs.Versions.{Content, Version, keep, has, needed, settle, Reading, add, leave}
 

@@ -1,5 +1,5 @@
 -- The number of each refusal, and its values.
-use Rattle.std.specs.Prelude.{[], ◌∷◌, ℕ}
+use Rattle.std.specs.Prelude.{[], ◌∷◌}
 use Rattle.layout.specs.Page.{cause_number}
 use Rattle.readings.specs.Mount.{Verdict, plain}
 use Rattle.refusals.specs.declared.types.Refusal.{Refusal}

@@ -1,5 +1,5 @@
 -- What each call on an open store answers, and the reading that it leaves.
-use Rattle.std.specs.Prelude.{ℕ, suc, ◌-◌, Bool, true, false, cond, not, List, [], ◌∷◌, ◌++◌, reverse, length, replicate, ◌==◌, nat_lt}
+use Rattle.std.specs.Prelude.{ℕ, ◌-◌, Bool, true, false, cond, not, List, [], ◌∷◌, ◌++◌, reverse, length, replicate, ◌==◌, nat_lt}
 use Rattle.std.proofs.Math.Option.{Option, none, some}
 use Rattle.readings.specs.Versions.{Content, bytes, deleted, Version, has, Reading, add}
 use Rattle.readings.specs.Changes.{last_clock, last_sector, present, in_state, frozen, released, reverted, backed}

@@ -1,7 +1,7 @@
 -- What each call makes of a store: v is the store before, a the answer, w the store after.
-use Rattle.std.specs.Prelude.{Bool, true, false, not, cond, List, [], ◌∷◌, ◌≡◌, ℕ, eqb, ltb, length}
+use Rattle.std.specs.Prelude.{true, false, cond, List, [], ◌∷◌, ◌≡◌, ℕ, eqb, ltb, length}
 use Rattle.readings.specs.Changes.{fresh}
-use Rattle.readings.specs.Mount.{Verdict, mount_verdict, size_fits}
+use Rattle.readings.specs.Mount.{mount_verdict, size_fits}
 use Rattle.rules.specs.Calls.{Call, mount, close, count, clean, freeze, open_slip, write, delete, read, look, since, since_in, ask_held, ask_label, release, revert, keep_slip, back_slip, Answer, refused, granted, rule}
 use Rattle.calls.specs.Follows.{Followed, Cleaned}
 use Rattle.store.specs.declared.slips.Slip.{Slip}

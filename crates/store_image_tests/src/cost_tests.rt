@@ -1,7 +1,7 @@
 // How many reads, programs and erases of the chip a call costs.
 use chip::Chip;
 use nor::{BLOCK_WORDS, Nor};
-use std::process::Abort;
+use std::test::Fail;
 use store::Store;
 use test_chips::Counting;
 use test_hands::Step::*;
@@ -33,14 +33,13 @@ fn mount_cost<C: Chip>(chip: Counting<C>) -> (Counting<C>, [u32; 3]) {
 
 // What mount and then a step cost.
 fn step_cost<C: Chip + Drop>(
-    rt: &impl Abort,
     chip: Counting<C>,
     step: Step<'_>,
 ) -> Result<(Counting<C>, [u32; 3]), Fail> {
     let before = counts(&chip);
     let mut store = Store::new(chip);
     let _ = store.mount();
-    let end = play(rt, &mut store, &[step]);
+    let end = play(&mut store, &[step]);
     let chip = store.unmount();
     end?;
     let cost = since_then(&chip, before);
@@ -49,25 +48,23 @@ fn step_cost<C: Chip + Drop>(
 
 // The cost of each step of a table on a mounted store of 16 pages, besides that of mount.
 fn check_costs<C: Chip + Drop>(
-    rt: &impl Abort,
     chip: Counting<C>,
     table: &[(Step<'_>, [u32; 3])],
 ) -> Result<(), Fail> {
     let (mut chip, [reads, programs, erases]) = mount_cost(chip);
-    assert!(rt; reads == 16 || reads == 17);
-    assert_eq!(rt; [programs, erases], [0, 0]);
+    check(reads == 16 || reads == 17)?;
+    check_eq([programs, erases], [0, 0])?;
     for (step, cost) in table {
-        let (next, [all, programs, erases]) = step_cost(rt, chip, *step)?;
+        let (next, [all, programs, erases]) = step_cost(chip, *step)?;
         chip = next;
-        assert_eq!(rt; [all.wrapping_sub(reads), programs, erases], *cost);
+        check_eq([all.wrapping_sub(reads), programs, erases], *cost)?;
     }
     Ok(())
 }
 
 // Sector 1 and its state 3, then sectors 1 and 2 anew.
-fn make<C: Chip>(rt: &impl Abort, store: &mut Store<C>) -> Result<(), Fail> {
+fn make<C: Chip>(store: &mut Store<C>) -> Result<(), Fail> {
     play(
-        rt,
         store,
         &[
             Format(b"", Ok(1)),
@@ -80,14 +77,13 @@ fn make<C: Chip>(rt: &impl Abort, store: &mut Store<C>) -> Result<(), Fail> {
 }
 
 #[test]
-fn queries_read_one_page_at_most_and_refusals_none(rt: HostRuntime) -> Result<(), Fail> {
+fn queries_read_one_page_at_most_and_refusals_none() -> Result<(), Fail> {
     let mut words = [0xFFFFu16; 2 * BLOCK_WORDS];
     let mut store = Store::new(Counting::new(Nor::new(&mut words)));
-    let end = make(&rt, &mut store);
+    let end = make(&mut store);
     let chip = store.unmount();
     end?;
     check_costs(
-        &rt,
         chip,
         &[
             (Read(1, 66), [1, 0, 0]),
@@ -115,14 +111,13 @@ fn queries_read_one_page_at_most_and_refusals_none(rt: HostRuntime) -> Result<()
 }
 
 #[test]
-fn a_change_programs_one_page_where_there_is_room(rt: HostRuntime) -> Result<(), Fail> {
+fn a_change_programs_one_page_where_there_is_room() -> Result<(), Fail> {
     let mut words = [0xFFFFu16; 2 * BLOCK_WORDS];
     let mut store = Store::new(Counting::new(Nor::new(&mut words)));
-    let end = play(&rt, &mut store, &[Format(b"", Ok(1))]);
+    let end = play(&mut store, &[Format(b"", Ok(1))]);
     let chip = store.unmount();
     end?;
     check_costs(
-        &rt,
         chip,
         &[
             (Held(&[]), [0, 0, 0]),
@@ -136,9 +131,8 @@ fn a_change_programs_one_page_where_there_is_room(rt: HostRuntime) -> Result<(),
 }
 
 // Six needed versions, a register and a stale page fill a block of 8.
-fn fill<C: Chip>(rt: &impl Abort, store: &mut Store<C>) -> Result<(), Fail> {
+fn fill<C: Chip>(store: &mut Store<C>) -> Result<(), Fail> {
     play(
-        rt,
         store,
         &[
             Format(b"", Ok(1)),
@@ -155,14 +149,13 @@ fn fill<C: Chip>(rt: &impl Abort, store: &mut Store<C>) -> Result<(), Fail> {
 
 // Seven pages are copied, and one is new.
 #[test]
-fn a_change_cleans_one_block_where_there_is_no_room(rt: HostRuntime) -> Result<(), Fail> {
+fn a_change_cleans_one_block_where_there_is_no_room() -> Result<(), Fail> {
     let mut words = [0xFFFFu16; 2 * BLOCK_WORDS];
     let mut store = Store::new(Counting::new(Nor::new(&mut words)));
-    let end = fill(&rt, &mut store);
+    let end = fill(&mut store);
     let chip = store.unmount();
     end?;
     check_costs(
-        &rt,
         chip,
         &[
             (Write(0, 72, Ok(9)), [7, 8, 1]),

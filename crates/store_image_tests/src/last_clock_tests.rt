@@ -1,25 +1,24 @@
 // The last two ticks of the clock.
 use chip::Chip;
 use nor::{BLOCK_WORDS, Nor};
-use std::process::Abort;
+use std::test::Fail;
 use store::{Slip, Store};
 use test_hands::Step::*;
 use test_hands::*;
 
 const LAST: u32 = 4294967294;
 
-fn craft<C: Chip>(rt: &impl Abort, chip: &mut C, held: &[u32]) -> Result<(), Fail> {
-    put(rt, chip, 0, &data_page(1, 2, 65)?)?;
-    put(rt, chip, 1, &register_page(LAST - 1, held)?)
+fn craft<C: Chip>(chip: &mut C, held: &[u32]) -> Result<(), Fail> {
+    put(chip, 0, &data_page(1, 2, 65)?)?;
+    put(chip, 1, &register_page(LAST - 1, held)?)
 }
 
 #[test]
-fn the_last_tick_is_given_once(rt: HostRuntime) -> Result<(), Fail> {
+fn the_last_tick_is_given_once() -> Result<(), Fail> {
     let mut words = [0xFFFFu16; 2 * BLOCK_WORDS];
     let mut chip = Nor::new(&mut words);
-    craft(&rt, &mut chip, &[5])?;
+    craft(&mut chip, &[5])?;
     play_on(
-        &rt,
         chip,
         &[
             Mount(Ok(LAST - 1)),
@@ -46,17 +45,16 @@ fn the_last_tick_is_given_once(rt: HostRuntime) -> Result<(), Fail> {
 
 // Eight held numbers are told before the clock, and the clock before the room: six versions fill it.
 #[test]
-fn the_clock_comes_after_the_held_numbers_and_before_the_room(rt: HostRuntime) -> Result<(), Fail> {
+fn the_clock_comes_after_the_held_numbers_and_before_the_room() -> Result<(), Fail> {
     let mut words = [0xFFFFu16; 2 * BLOCK_WORDS];
     let mut chip = Nor::new(&mut words);
-    craft(&rt, &mut chip, &[2, 3, 4, 5, 6, 7, 8, 9])?;
-    put(&rt, &mut chip, 2, &data_page(2, 9, 66)?)?;
-    put(&rt, &mut chip, 3, &data_page(2, 10, 67)?)?;
-    put(&rt, &mut chip, 4, &data_page(3, 11, 68)?)?;
-    put(&rt, &mut chip, 5, &data_page(4, 12, 69)?)?;
-    put(&rt, &mut chip, 6, &deletion_page(1, 13)?)?;
+    craft(&mut chip, &[2, 3, 4, 5, 6, 7, 8, 9])?;
+    put(&mut chip, 2, &data_page(2, 9, 66)?)?;
+    put(&mut chip, 3, &data_page(2, 10, 67)?)?;
+    put(&mut chip, 4, &data_page(3, 11, 68)?)?;
+    put(&mut chip, 5, &data_page(4, 12, 69)?)?;
+    put(&mut chip, 6, &deletion_page(1, 13)?)?;
     play_on(
-        &rt,
         chip,
         &[
             Mount(Ok(LAST - 1)),
@@ -94,12 +92,11 @@ fn slip_of_five<C: Chip>(store: &mut Store<C>) -> Option<Slip> {
 }
 
 fn spend_at_the_end<A: Chip, B: Chip>(
-    rt: &impl Abort,
     store: &mut Store<A>,
     other: &mut Store<B>,
     goes_back: bool,
 ) -> Result<(), Fail> {
-    play(rt, store, &[Mount(Ok(LAST - 1)), Write(1, 66, Ok(LAST))])?;
+    play(store, &[Mount(Ok(LAST - 1)), Write(1, 66, Ok(LAST))])?;
     let Some(slip) = slip_of_five(other) else {
         return Err(Fail::new("open is refused"));
     };
@@ -109,9 +106,8 @@ fn spend_at_the_end<A: Chip, B: Chip>(
     } else {
         store.keep(slip)
     };
-    assert_eq!(rt; (number, tick(answer)), (5, Err(11)));
+    check_eq((number, tick(answer)), (5, Err(11)))?;
     play(
-        rt,
         store,
         &[
             Held(&[5]),
@@ -123,21 +119,21 @@ fn spend_at_the_end<A: Chip, B: Chip>(
     )
 }
 
-fn slip_at_the_end(rt: &impl Abort, goes_back: bool) -> Result<(), Fail> {
+fn slip_at_the_end(goes_back: bool) -> Result<(), Fail> {
     let mut words = [0xFFFFu16; 2 * BLOCK_WORDS];
     let mut others = [0xFFFFu16; 2 * BLOCK_WORDS];
     let mut chip = Nor::new(&mut words);
-    craft(rt, &mut chip, &[5])?;
+    craft(&mut chip, &[5])?;
     let mut store = Store::new(chip);
     let mut other = Store::new(Nor::new(&mut others));
-    let end = spend_at_the_end(rt, &mut store, &mut other, goes_back);
+    let end = spend_at_the_end(&mut store, &mut other, goes_back);
     let _ = store.unmount();
     let _ = other.unmount();
     end
 }
 
 #[test]
-fn a_slip_refused_by_the_clock_is_spent_and_its_number_stays(rt: HostRuntime) -> Result<(), Fail> {
-    slip_at_the_end(&rt, false)?;
-    slip_at_the_end(&rt, true)
+fn a_slip_refused_by_the_clock_is_spent_and_its_number_stays() -> Result<(), Fail> {
+    slip_at_the_end(false)?;
+    slip_at_the_end(true)
 }

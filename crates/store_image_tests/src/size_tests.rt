@@ -3,6 +3,7 @@ use crate::verdicts::mounted;
 use chip::{BlockNumber, PAGE_BYTES};
 use nor::{BLOCK_WORDS, Nor};
 use partition::Partition;
+use std::test::Fail;
 use test_hands::Step::*;
 use test_hands::*;
 
@@ -10,12 +11,10 @@ use test_hands::*;
 fn pages_are_2048_at_most(rt: HostRuntime) -> Result<(), Fail> {
     let mut words = vec![in rt.alloc(); 0xFFFFu16; 257 * BLOCK_WORDS]?;
     play_on(
-        &rt,
         Nor::new(words.as_mut_slice()),
         &[Format(b"", Err(3)), Mount(Err(3))],
     )?;
     play_on(
-        &rt,
         Partition::new(Nor::new(words.as_mut_slice()), BlockNumber(1), 256),
         &[
             Format(b"", Ok(1)),
@@ -32,14 +31,8 @@ fn pages_are_2048_at_most(rt: HostRuntime) -> Result<(), Fail> {
 #[test]
 fn size_is_looked_at_before_pages(rt: HostRuntime) -> Result<(), Fail> {
     let mut words = vec![in rt.alloc(); 0xFFFFu16; 257 * BLOCK_WORDS]?;
-    put(
-        &rt,
-        &mut Nor::new(words.as_mut_slice()),
-        2047,
-        &[0; PAGE_BYTES],
-    )?;
-    assert_eq!(rt; mounted(Nor::new(words.as_mut_slice())), (3, 0, 0));
+    put(&mut Nor::new(words.as_mut_slice()), 2047, &[0; PAGE_BYTES])?;
+    check_eq(mounted(Nor::new(words.as_mut_slice())), (3, 0, 0))?;
     let part = Partition::new(Nor::new(words.as_mut_slice()), BlockNumber(0), 256);
-    assert_eq!(rt; mounted(part), (5, 2047, 30));
-    Ok(())
+    check_eq(mounted(part), (5, 2047, 30))
 }

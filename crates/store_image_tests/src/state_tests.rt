@@ -1,18 +1,18 @@
 // Versions born exactly at a held number, which no call makes.
 use nor::{BLOCK_WORDS, Nor};
+use std::test::Fail;
 use test_hands::Step::*;
 use test_hands::*;
 
 #[test]
-fn a_version_born_at_a_held_number_is_of_that_state(rt: HostRuntime) -> Result<(), Fail> {
+fn a_version_born_at_a_held_number_is_of_that_state() -> Result<(), Fail> {
     let mut words = [0xFFFFu16; 2 * BLOCK_WORDS];
     let mut chip = Nor::new(&mut words);
-    put(&rt, &mut chip, 0, &register_page(7, &[4])?)?;
-    put(&rt, &mut chip, 1, &data_page(1, 4, 65)?)?;
-    put(&rt, &mut chip, 2, &data_page(1, 6, 66)?)?;
-    put(&rt, &mut chip, 3, &data_page(2, 5, 67)?)?;
+    put(&mut chip, 0, &register_page(7, &[4])?)?;
+    put(&mut chip, 1, &data_page(1, 4, 65)?)?;
+    put(&mut chip, 2, &data_page(1, 6, 66)?)?;
+    put(&mut chip, 3, &data_page(2, 5, 67)?)?;
     play_on(
-        &rt,
         chip,
         &[
             Mount(Ok(7)),
@@ -37,15 +37,14 @@ fn a_version_born_at_a_held_number_is_of_that_state(rt: HostRuntime) -> Result<(
 
 // The deletion hides the version before it in that state too.
 #[test]
-fn a_deletion_born_at_a_held_number_is_of_that_state(rt: HostRuntime) -> Result<(), Fail> {
+fn a_deletion_born_at_a_held_number_is_of_that_state() -> Result<(), Fail> {
     let mut words = [0xFFFFu16; 2 * BLOCK_WORDS];
     let mut chip = Nor::new(&mut words);
-    put(&rt, &mut chip, 0, &register_page(7, &[4])?)?;
-    put(&rt, &mut chip, 1, &data_page(1, 3, 65)?)?;
-    put(&rt, &mut chip, 2, &deletion_page(1, 4)?)?;
-    put(&rt, &mut chip, 3, &data_page(1, 5, 66)?)?;
+    put(&mut chip, 0, &register_page(7, &[4])?)?;
+    put(&mut chip, 1, &data_page(1, 3, 65)?)?;
+    put(&mut chip, 2, &deletion_page(1, 4)?)?;
+    put(&mut chip, 3, &data_page(1, 5, 66)?)?;
     play_on(
-        &rt,
         chip,
         &[
             Mount(Ok(7)),

@@ -4,7 +4,6 @@ use nor::{BLOCK_WORDS, Nor};
 use partition::Partition;
 use refusals::Refusal;
 use rules::Tick;
-use std::process::Abort;
 use std::test::Fail;
 use store::Store;
 use test_hands::put;
@@ -26,15 +25,11 @@ pub fn mounted<C: Chip + Drop>(chip: C) -> (u8, u32, u8) {
 }
 
 // The same on up to four NOR blocks with these pages.
-pub fn verdict(
-    rt: &impl Abort,
-    blocks: usize,
-    pages: &[(u32, [u8; PAGE_BYTES])],
-) -> Result<(u8, u32, u8), Fail> {
+pub fn verdict(blocks: usize, pages: &[(u32, [u8; PAGE_BYTES])]) -> Result<(u8, u32, u8), Fail> {
     let mut words = [0xFFFFu16; 4 * BLOCK_WORDS];
     let mut chip = Nor::new(&mut words);
     for (page, bytes) in pages {
-        put(rt, &mut chip, *page, bytes)?;
+        put(&mut chip, *page, bytes)?;
     }
     Ok(mounted(Partition::new(chip, BlockNumber(0), blocks)))
 }

@@ -3,14 +3,13 @@ use chip::{BlockNumber, Chip, PAGE_BYTES, PageNumber};
 use nand::{BLOCK_BYTES, Nand};
 use nor::{BLOCK_WORDS, Nor};
 use partition::Partition;
-use std::process::Abort;
+use std::test::Fail;
 use store::Store;
 use test_hands::Step::*;
 use test_hands::*;
 
-fn morning<C: Chip>(rt: &impl Abort, store: &mut Store<C>, capacity: usize) -> Result<(), Fail> {
+fn morning<C: Chip>(store: &mut Store<C>, capacity: usize) -> Result<(), Fail> {
     play(
-        rt,
         store,
         &[
             Format(b"day", Ok(1)),
@@ -41,36 +40,36 @@ fn morning<C: Chip>(rt: &impl Abort, store: &mut Store<C>, capacity: usize) -> R
 }
 
 // A slip of 8 is spent by back: the write after it is gone.
-fn noon<C: Chip>(rt: &impl Abort, store: &mut Store<C>) -> Result<(), Fail> {
+fn noon<C: Chip>(store: &mut Store<C>) -> Result<(), Fail> {
     let Ok(slip) = store.open() else {
         return Err(Fail::new("open is refused"));
     };
     let number = slip.number().0;
     let written = write(store, 3, 68);
     let answer = tick(store.back(slip));
-    assert_eq!(rt; number, 8);
-    assert_eq!(rt; written, Ok(9));
-    assert_eq!(rt; answer, Ok(10));
-    play(rt, store, &[Read(3, 65), Held(&[3])])
+    check_eq(number, 8)?;
+    check_eq(written, Ok(9))?;
+    check_eq(answer, Ok(10))?;
+    play(store, &[Read(3, 65), Held(&[3])])
 }
 
 // A slip of 11 is spent by keep: the write after it stays.
-fn evening<C: Chip>(rt: &impl Abort, store: &mut Store<C>) -> Result<(), Fail> {
+fn evening<C: Chip>(store: &mut Store<C>) -> Result<(), Fail> {
     let Ok(slip) = store.open() else {
         return Err(Fail::new("open is refused"));
     };
     let number = slip.number().0;
     let written = write(store, 5, 69);
     let answer = tick(store.keep(slip));
-    assert_eq!(rt; number, 11);
-    assert_eq!(rt; written, Ok(12));
-    assert_eq!(rt; answer, Ok(13));
-    play(rt, store, &[Read(5, 69), Held(&[3])])
+    check_eq(number, 11)?;
+    check_eq(written, Ok(12))?;
+    check_eq(answer, Ok(13))?;
+    play(store, &[Read(5, 69), Held(&[3])])
 }
 
 // Cleans until nothing is stale.
-fn tidy<C: Chip>(rt: &impl Abort, store: &mut Store<C>) -> Result<(), Fail> {
-    assert_ne!(rt; clean(store), Ok(0));
+fn tidy<C: Chip>(store: &mut Store<C>) -> Result<(), Fail> {
+    check_ne(clean(store), Ok(0))?;
     for _ in 0..4 {
         if clean(store) == Ok(0) {
             return Ok(());
@@ -79,11 +78,10 @@ fn tidy<C: Chip>(rt: &impl Abort, store: &mut Store<C>) -> Result<(), Fail> {
     Err(Fail::new("cleaning has no end"))
 }
 
-fn night<C: Chip>(rt: &impl Abort, store: &mut Store<C>, capacity: usize) -> Result<(), Fail> {
-    play(rt, store, &[Release(3, Ok(14)), Revert(3, Err(9))])?;
-    tidy(rt, store)?;
+fn night<C: Chip>(store: &mut Store<C>, capacity: usize) -> Result<(), Fail> {
+    play(store, &[Release(3, Ok(14)), Revert(3, Err(9))])?;
+    tidy(store)?;
     play(
-        rt,
         store,
         &[
             Close(Ok(0)),
@@ -99,37 +97,36 @@ fn night<C: Chip>(rt: &impl Abort, store: &mut Store<C>, capacity: usize) -> Res
     )
 }
 
-fn day<C: Chip>(rt: &impl Abort, store: &mut Store<C>, capacity: usize) -> Result<(), Fail> {
-    morning(rt, store, capacity)?;
-    noon(rt, store)?;
-    evening(rt, store)?;
-    night(rt, store, capacity)
+fn day<C: Chip>(store: &mut Store<C>, capacity: usize) -> Result<(), Fail> {
+    morning(store, capacity)?;
+    noon(store)?;
+    evening(store)?;
+    night(store, capacity)
 }
 
 #[test]
-fn a_day_on_nand(rt: HostRuntime) -> Result<(), Fail> {
+fn a_day_on_nand() -> Result<(), Fail> {
     let mut bytes = [0xFFu8; 3 * BLOCK_BYTES];
     let mut store = Store::new(Nand::new(&mut bytes));
-    let end = day(&rt, &mut store, 62);
+    let end = day(&mut store, 62);
     let _ = store.unmount();
     end
 }
 
 // The blocks beside the partition stay as they were.
 #[test]
-fn a_day_on_a_partition_of_nor(rt: HostRuntime) -> Result<(), Fail> {
+fn a_day_on_a_partition_of_nor() -> Result<(), Fail> {
     let mut words = [0xFFFFu16; 5 * BLOCK_WORDS];
     let mut chip = Nor::new(&mut words);
-    put(&rt, &mut chip, 7, &[17; PAGE_BYTES])?;
-    put(&rt, &mut chip, 32, &[18; PAGE_BYTES])?;
+    put(&mut chip, 7, &[17; PAGE_BYTES])?;
+    put(&mut chip, 32, &[18; PAGE_BYTES])?;
     let mut store = Store::new(Partition::new(chip, BlockNumber(1), 3));
-    let end = day(&rt, &mut store, 14);
+    let end = day(&mut store, 14);
     let chip = store.unmount().into_below();
     end?;
     let mut before = [0; PAGE_BYTES];
     let mut after = [0; PAGE_BYTES];
-    assert!(rt; chip.read(PageNumber(7), &mut before).is_ok());
-    assert!(rt; chip.read(PageNumber(32), &mut after).is_ok());
-    assert!(rt; before == [17; PAGE_BYTES] && after == [18; PAGE_BYTES]);
-    Ok(())
+    check(chip.read(PageNumber(7), &mut before).is_ok())?;
+    check(chip.read(PageNumber(32), &mut after).is_ok())?;
+    check(before == [17; PAGE_BYTES] && after == [18; PAGE_BYTES])
 }

@@ -3,16 +3,16 @@ use chip::BlockNumber;
 use nor::{BLOCK_WORDS, Nor};
 use partition::Partition;
 use std::mem::size_of;
+use std::test::Fail;
 use store::Store;
 use test_chips::Tiny;
 use test_hands::Step::*;
 use test_hands::*;
 
 #[test]
-fn sectors_end_at_2047(rt: HostRuntime) -> Result<(), Fail> {
+fn sectors_end_at_2047() -> Result<(), Fail> {
     let mut words = [0xFFFFu16; 4 * BLOCK_WORDS];
     play_on(
-        &rt,
         Nor::new(&mut words),
         &[
             Format(b"", Ok(1)),
@@ -30,10 +30,9 @@ fn sectors_end_at_2047(rt: HostRuntime) -> Result<(), Fail> {
 }
 
 #[test]
-fn eight_states_are_held_and_no_ninth(rt: HostRuntime) -> Result<(), Fail> {
+fn eight_states_are_held_and_no_ninth() -> Result<(), Fail> {
     let mut words = [0xFFFFu16; 2 * BLOCK_WORDS];
     play_on(
-        &rt,
         Nor::new(&mut words),
         &[
             Format(b"", Ok(1)),
@@ -55,10 +54,9 @@ fn eight_states_are_held_and_no_ninth(rt: HostRuntime) -> Result<(), Fail> {
 }
 
 #[test]
-fn numbers_that_are_not_held_are_refused(rt: HostRuntime) -> Result<(), Fail> {
+fn numbers_that_are_not_held_are_refused() -> Result<(), Fail> {
     let mut words = [0xFFFFu16; 2 * BLOCK_WORDS];
     play_on(
-        &rt,
         Nor::new(&mut words),
         &[
             Format(b"", Ok(1)),
@@ -79,10 +77,9 @@ fn numbers_that_are_not_held_are_refused(rt: HostRuntime) -> Result<(), Fail> {
 
 // Two blocks in the midst of four.
 #[test]
-fn a_label_has_32_bytes_at_most(rt: HostRuntime) -> Result<(), Fail> {
+fn a_label_has_32_bytes_at_most() -> Result<(), Fail> {
     let mut words = [0xFFFFu16; 4 * BLOCK_WORDS];
     play_on(
-        &rt,
         Partition::new(Nor::new(&mut words), BlockNumber(1), 2),
         &[
             Format(&[75; 33], Err(4)),
@@ -96,10 +93,9 @@ fn a_label_has_32_bytes_at_most(rt: HostRuntime) -> Result<(), Fail> {
 
 // The last of four blocks.
 #[test]
-fn one_block_is_too_small(rt: HostRuntime) -> Result<(), Fail> {
+fn one_block_is_too_small() -> Result<(), Fail> {
     let mut words = [0xFFFFu16; 4 * BLOCK_WORDS];
     play_on(
-        &rt,
         Partition::new(Nor::new(&mut words), BlockNumber(3), 2),
         &[
             Format(&[75; 33], Err(3)),
@@ -111,10 +107,9 @@ fn one_block_is_too_small(rt: HostRuntime) -> Result<(), Fail> {
 }
 
 #[test]
-fn an_open_store_is_not_opened_and_a_closed_one_does_nothing(rt: HostRuntime) -> Result<(), Fail> {
+fn an_open_store_is_not_opened_and_a_closed_one_does_nothing() -> Result<(), Fail> {
     let mut words = [0xFFFFu16; 2 * BLOCK_WORDS];
     play_on(
-        &rt,
         Nor::new(&mut words),
         &[
             Mount(Err(6)),
@@ -139,9 +134,9 @@ fn an_open_store_is_not_opened_and_a_closed_one_does_nothing(rt: HostRuntime) ->
 
 // All that a store has besides its chip.
 #[test]
-fn memory_is_at_most_32768_bytes(rt: HostRuntime) {
+fn memory_is_at_most_32768_bytes() -> Result<(), Fail> {
     let nor = size_of::<Store<Nor<'static>>>().saturating_sub(size_of::<Nor<'static>>());
     let tiny = size_of::<Store<Tiny<'static>>>().saturating_sub(size_of::<Tiny<'static>>());
-    assert!(rt; nor > 0 && nor <= 32768);
-    assert!(rt; tiny > 0 && tiny <= 32768);
+    check(nor > 0 && nor <= 32768)?;
+    check(tiny > 0 && tiny <= 32768)
 }

@@ -1,6 +1,7 @@
 // The bytes of the register on the chip.
 use chip::{Chip, PAGE_BYTES, PageNumber};
 use nor::{BLOCK_WORDS, Nor};
+use std::test::Fail;
 use store::Store;
 use test_hands::Step::*;
 use test_hands::*;
@@ -35,11 +36,11 @@ fn youngest_register<C: Chip>(chip: &C) -> u32 {
 }
 
 #[test]
-fn label_k7_and_held_3_have_these_bytes(rt: HostRuntime) -> Result<(), Fail> {
+fn label_k7_and_held_3_have_these_bytes() -> Result<(), Fail> {
     let mut words = [0xFFFFu16; 4 * BLOCK_WORDS];
     let mut store = Store::new(Nor::new(&mut words));
     let steps = [Format(b"K7", Ok(1)), Write(5, 65, Ok(2)), Freeze(Ok(3))];
-    let end = play(&rt, &mut store, &steps);
+    let end = play(&mut store, &steps);
     let chip = store.unmount();
     end?;
     let mut wanted = [0; PAGE_BYTES];
@@ -47,6 +48,5 @@ fn label_k7_and_held_3_have_these_bytes(rt: HostRuntime) -> Result<(), Fail> {
         0x08, 0x00, 0x04, 0x00, 0x0C, 0x00, 0x02, 0x00, 0x03, 0x00, 0x00, 0x00, 0x4B, 0x37,
     ]);
     wanted[512..520].copy_from_slice(&[3, 0, 0xFF, 0xFF, 3, 0, 0, 0]);
-    assert!(rt; page_at(&chip, youngest_register(&chip)) == wanted);
-    Ok(())
+    check(page_at(&chip, youngest_register(&chip)) == wanted)
 }

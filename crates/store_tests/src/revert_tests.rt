@@ -1,47 +1,48 @@
 // Going back to a frozen state.
 use chip::Chip;
 use nor::{BLOCK_WORDS, Nor};
-use std::process::Abort;
+use std::test::Fail;
 use store::Store;
 use test_hands::Step::*;
 use test_hands::*;
 
 // Sectors 0 to 9, then state 12.
-fn freeze_ten_sectors<C: Chip>(rt: &impl Abort, store: &mut Store<C>) -> Result<(), Fail> {
-    play(rt, store, &[Format(b"ten", Ok(1))])?;
+fn freeze_ten_sectors<C: Chip>(store: &mut Store<C>) -> Result<(), Fail> {
+    play(store, &[Format(b"ten", Ok(1))])?;
     for sector in 0..10u8 {
         let clock = sector as u32 + 2;
-        play(rt, store, &[Write(sector as u32, 100 + sector, Ok(clock))])?;
+        play(store, &[Write(sector as u32, 100 + sector, Ok(clock))])?;
     }
-    play(rt, store, &[Freeze(Ok(12))])
+    play(store, &[Freeze(Ok(12))])
 }
 
 // Each round ticks twice; every seventh cleans a block.
-fn write_and_delete<C: Chip>(rt: &impl Abort, store: &mut Store<C>) {
+fn write_and_delete<C: Chip>(store: &mut Store<C>) -> Result<(), Fail> {
     for round in 0..300u32 {
         let byte = (round % 200) as u8;
         let clock = 13 + 2 * round;
-        assert_eq!(rt; write(store, 20, byte), Ok(clock));
-        assert_eq!(rt; delete(store, 20), Ok(clock + 1));
+        check_eq(write(store, 20, byte), Ok(clock))?;
+        check_eq(delete(store, 20), Ok(clock + 1))?;
         if round % 7 == 0 {
-            assert!(rt; clean(store).is_ok());
+            check(clean(store).is_ok())?;
         }
     }
+    Ok(())
 }
 
-fn overwrite<C: Chip>(rt: &impl Abort, store: &mut Store<C>) {
+fn overwrite<C: Chip>(store: &mut Store<C>) -> Result<(), Fail> {
     for round in 0..300u32 {
         let clock = 13 + 2 * round;
-        assert_eq!(rt; write(store, round % 10, 9), Ok(clock));
-        assert_eq!(rt; delete(store, round % 10), Ok(clock + 1));
+        check_eq(write(store, round % 10, 9), Ok(clock))?;
+        check_eq(delete(store, round % 10), Ok(clock + 1))?;
     }
+    Ok(())
 }
 
-fn ten_sectors_are_as_frozen<C: Chip>(rt: &impl Abort, store: &mut Store<C>) -> Result<(), Fail> {
+fn ten_sectors_are_as_frozen<C: Chip>(store: &mut Store<C>) -> Result<(), Fail> {
     for sector in 0..10u8 {
         let clock = sector as u32 + 2;
         play(
-            rt,
             store,
             &[
                 Read(sector as u32, 100 + sector),
@@ -49,60 +50,54 @@ fn ten_sectors_are_as_frozen<C: Chip>(rt: &impl Abort, store: &mut Store<C>) -> 
             ],
         )?;
     }
-    play(
-        rt,
-        store,
-        &[ReadEmpty(20), Held(&[12]), Count(Ok((10, 22)))],
-    )
+    play(store, &[ReadEmpty(20), Held(&[12]), Count(Ok((10, 22)))])
 }
 
-fn revert_and_mount<C: Chip>(rt: &impl Abort, store: &mut Store<C>) -> Result<(), Fail> {
-    play(rt, store, &[Revert(12, Ok(613))])?;
-    ten_sectors_are_as_frozen(rt, store)?;
-    play(rt, store, &[Close(Ok(0)), Mount(Ok(613))])?;
-    ten_sectors_are_as_frozen(rt, store)
+fn revert_and_mount<C: Chip>(store: &mut Store<C>) -> Result<(), Fail> {
+    play(store, &[Revert(12, Ok(613))])?;
+    ten_sectors_are_as_frozen(store)?;
+    play(store, &[Close(Ok(0)), Mount(Ok(613))])?;
+    ten_sectors_are_as_frozen(store)
 }
 
-fn incident<C: Chip>(rt: &impl Abort, store: &mut Store<C>) -> Result<(), Fail> {
-    freeze_ten_sectors(rt, store)?;
-    write_and_delete(rt, store);
-    revert_and_mount(rt, store)
+fn incident<C: Chip>(store: &mut Store<C>) -> Result<(), Fail> {
+    freeze_ten_sectors(store)?;
+    write_and_delete(store)?;
+    revert_and_mount(store)
 }
 
 #[test]
-fn a_frozen_state_outlives_300_writes_and_deletes(rt: HostRuntime) -> Result<(), Fail> {
+fn a_frozen_state_outlives_300_writes_and_deletes() -> Result<(), Fail> {
     let mut words = [0xFFFFu16; 4 * BLOCK_WORDS];
     let mut store = Store::new(Nor::new(&mut words));
-    let end = incident(&rt, &mut store);
+    let end = incident(&mut store);
     let _ = store.unmount();
     end
 }
 
-fn overwritten<C: Chip>(rt: &impl Abort, store: &mut Store<C>) -> Result<(), Fail> {
-    freeze_ten_sectors(rt, store)?;
-    overwrite(rt, store);
+fn overwritten<C: Chip>(store: &mut Store<C>) -> Result<(), Fail> {
+    freeze_ten_sectors(store)?;
+    overwrite(store)?;
     play(
-        rt,
         store,
         &[Look(12, 9, 109), ReadEmpty(9), Count(Ok((20, 22)))],
     )?;
-    revert_and_mount(rt, store)
+    revert_and_mount(store)
 }
 
 #[test]
-fn a_frozen_state_outlives_changes_of_its_sectors(rt: HostRuntime) -> Result<(), Fail> {
+fn a_frozen_state_outlives_changes_of_its_sectors() -> Result<(), Fail> {
     let mut words = [0xFFFFu16; 4 * BLOCK_WORDS];
     let mut store = Store::new(Nor::new(&mut words));
-    let end = overwritten(&rt, &mut store);
+    let end = overwritten(&mut store);
     let _ = store.unmount();
     end
 }
 
 #[test]
-fn what_a_revert_took_does_not_come_back_at_mount(rt: HostRuntime) -> Result<(), Fail> {
+fn what_a_revert_took_does_not_come_back_at_mount() -> Result<(), Fail> {
     let mut words = [0xFFFFu16; 4 * BLOCK_WORDS];
     play_on(
-        &rt,
         Nor::new(&mut words),
         &[
             Format(b"", Ok(1)),

@@ -1,7 +1,7 @@
 // The smallest chips, worn.
 use chip::Chip;
 use nor::{BLOCK_WORDS, Nor};
-use std::process::Abort;
+use std::test::Fail;
 use store::Store;
 use test_chips::{Row, Tiny};
 use test_hands::Step::*;
@@ -12,43 +12,42 @@ fn byte_of(round: u32) -> u8 {
 }
 
 // The last six rounds wrote six sectors.
-fn six_sectors<C: Chip>(rt: &impl Abort, store: &mut Store<C>, round: u32) -> Result<(), Fail> {
+fn six_sectors<C: Chip>(store: &mut Store<C>, round: u32) -> Result<(), Fail> {
     for back in 0..6u32 {
         let round = round.saturating_sub(back);
-        play(rt, store, &[Read(round % 6, byte_of(round))])?;
+        play(store, &[Read(round % 6, byte_of(round))])?;
     }
-    play(rt, store, &[Count(Ok((6, 6))), Write(6, 1, Err(12))])
+    play(store, &[Count(Ok((6, 6))), Write(6, 1, Err(12))])
 }
 
-fn fill_over_and_over<C: Chip>(rt: &impl Abort, store: &mut Store<C>) -> Result<(), Fail> {
-    play(rt, store, &[Format(b"six", Ok(1))])?;
+fn fill_over_and_over<C: Chip>(store: &mut Store<C>) -> Result<(), Fail> {
+    play(store, &[Format(b"six", Ok(1))])?;
     for round in 0..300u32 {
         let clock = round + 2;
         let change = Write(round % 6, byte_of(round), Ok(clock));
-        play(rt, store, &[change, Close(Ok(0)), Mount(Ok(clock))])?;
+        play(store, &[change, Close(Ok(0)), Mount(Ok(clock))])?;
         if round >= 5 {
-            six_sectors(rt, store, round)?;
+            six_sectors(store, round)?;
         }
     }
     Ok(())
 }
 
 #[test]
-fn two_blocks_are_filled_and_overwritten(rt: HostRuntime) -> Result<(), Fail> {
+fn two_blocks_are_filled_and_overwritten() -> Result<(), Fail> {
     let mut words = [0xFFFFu16; 2 * BLOCK_WORDS];
     let mut store = Store::new(Nor::new(&mut words));
-    let end = fill_over_and_over(&rt, &mut store);
+    let end = fill_over_and_over(&mut store);
     let _ = store.unmount();
     end
 }
 
 // Each round ticks three times: a state is frozen, gone back to and released.
-fn nothing_fits<C: Chip>(rt: &impl Abort, store: &mut Store<C>) -> Result<(), Fail> {
-    play(rt, store, &[Format(b"none", Ok(1))])?;
+fn nothing_fits<C: Chip>(store: &mut Store<C>) -> Result<(), Fail> {
+    play(store, &[Format(b"none", Ok(1))])?;
     for round in 0..50u32 {
         let state = 2 + 3 * round;
         play(
-            rt,
             store,
             &[
                 Write(0, 65, Err(12)),
@@ -63,21 +62,20 @@ fn nothing_fits<C: Chip>(rt: &impl Abort, store: &mut Store<C>) -> Result<(), Fa
             ],
         )?;
     }
-    play(rt, store, &[Delete(0, Ok(151)), Label(b"none")])
+    play(store, &[Delete(0, Ok(151)), Label(b"none")])
 }
 
 #[test]
-fn capacity_0_still_freezes_and_reverts(rt: HostRuntime) -> Result<(), Fail> {
+fn capacity_0_still_freezes_and_reverts() -> Result<(), Fail> {
     let mut rows = [Row::erased(); 4];
     let mut store = Store::new(Tiny::new(&mut rows));
-    let end = nothing_fits(&rt, &mut store);
+    let end = nothing_fits(&mut store);
     let _ = store.unmount();
     end
 }
 
-fn fill_beside_a_state<C: Chip>(rt: &impl Abort, store: &mut Store<C>) -> Result<(), Fail> {
+fn fill_beside_a_state<C: Chip>(store: &mut Store<C>) -> Result<(), Fail> {
     play(
-        rt,
         store,
         &[
             Format(b"", Ok(1)),
@@ -96,13 +94,12 @@ fn fill_beside_a_state<C: Chip>(rt: &impl Abort, store: &mut Store<C>) -> Result
     )
 }
 
-fn overwrite_beside_a_state<C: Chip>(rt: &impl Abort, store: &mut Store<C>) -> Result<(), Fail> {
-    fill_beside_a_state(rt, store)?;
+fn overwrite_beside_a_state<C: Chip>(store: &mut Store<C>) -> Result<(), Fail> {
+    fill_beside_a_state(store)?;
     for round in 0..100u32 {
         let clock = round + 9;
         let byte = byte_of(round);
         play(
-            rt,
             store,
             &[
                 Write(1, byte, Ok(clock)),
@@ -116,7 +113,6 @@ fn overwrite_beside_a_state<C: Chip>(rt: &impl Abort, store: &mut Store<C>) -> R
         )?;
     }
     play(
-        rt,
         store,
         &[
             Revert(4, Ok(109)),
@@ -128,10 +124,10 @@ fn overwrite_beside_a_state<C: Chip>(rt: &impl Abort, store: &mut Store<C>) -> R
 }
 
 #[test]
-fn four_blocks_of_two_pages_keep_four_versions(rt: HostRuntime) -> Result<(), Fail> {
+fn four_blocks_of_two_pages_keep_four_versions() -> Result<(), Fail> {
     let mut rows = [Row::erased(); 8];
     let mut store = Store::new(Tiny::new(&mut rows));
-    let end = overwrite_beside_a_state(&rt, &mut store);
+    let end = overwrite_beside_a_state(&mut store);
     let _ = store.unmount();
     end
 }

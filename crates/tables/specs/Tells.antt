@@ -1,13 +1,13 @@
 -- What an open store has in memory tells what its chip's pages say.
-use Rattle.std.specs.Prelude.{◌≡◌, ℕ, ◌+◌, ◌*◌, ◌<◌, ◌≤◌, true, List, [], length, get_or, MatchBool, ◌≢◌, nat_lt, slice_index, slice_index_or}
+use Rattle.std.specs.Prelude.{◌≡◌, ℕ, ◌+◌, ◌*◌, ◌<◌, true, List, [], length, get_or, MatchBool, ◌≢◌, nat_lt, slice_index, slice_index_or}
 use Rattle.chip.specs.Pages.{Page, is_erased}
 use Rattle.limits.specs.Values.{held_of, label_of}
 use Rattle.readings.specs.Versions.{Version}
 use Rattle.readings.specs.Sorted.{In}
-use Rattle.readings.specs.Sayings.{Saying, version, said, sayings}
+use Rattle.readings.specs.Sayings.{version, said, sayings}
 use Rattle.readings.specs.Reading.{versions, clock_of, latest, held_by}
 use Rattle.readings.specs.Links.{IsLast, Linked}
-use Rattle.readings.specs.Mount.{Verdict, plain, mount_verdict}
+use Rattle.readings.specs.Mount.{plain, mount_verdict}
 use Rattle.tables.specs.Records.{unused, Agrees}
 use Rattle.tables.specs.declared.index.Index.{Index}
 

@@ -2,14 +2,15 @@
 // its number, and pages for crafted chips.
 #![tactic(auto)]
 
+mod checks;
 mod pages;
 mod steps;
 
+pub use checks::{check, check_eq, check_ne};
 use chip::{Chip, SectorNumber};
 pub use pages::{changed, data_page, deletion_page, put, register_page};
 use refusals::Refusal;
 use rules::{Holding, Tick};
-use std::process::Abort;
 use std::test::Fail;
 pub use steps::{Step, play, play_on};
 use store::Store;
@@ -110,33 +111,25 @@ pub fn count<C: Chip>(store: &Store<C>) -> Result<(usize, usize), u8> {
 }
 
 // The sector reads as these bytes throughout.
-pub fn check_read<C: Chip>(
-    rt: &impl Abort,
-    store: &Store<C>,
-    sector: u32,
-    byte: u8,
-) -> Result<(), Fail> {
+pub fn check_read<C: Chip>(store: &Store<C>, sector: u32, byte: u8) -> Result<(), Fail> {
     let mut buffer = [7u8; 512];
-    assert_eq!(rt;
+    check_eq(
         data(store.read(SectorNumber(sector), &mut buffer)),
-        Ok(true)
-    );
-    assert!(rt; buffer == sector_of(byte));
-    Ok(())
+        Ok(true),
+    )?;
+    check(buffer == sector_of(byte))
 }
 
-pub fn check_empty<C: Chip>(rt: &impl Abort, store: &Store<C>, sector: u32) -> Result<(), Fail> {
+pub fn check_empty<C: Chip>(store: &Store<C>, sector: u32) -> Result<(), Fail> {
     let mut buffer = [7u8; 512];
-    assert_eq!(rt;
+    check_eq(
         data(store.read(SectorNumber(sector), &mut buffer)),
-        Ok(false)
-    );
-    assert!(rt; buffer == [0; 512]);
-    Ok(())
+        Ok(false),
+    )?;
+    check(buffer == [0; 512])
 }
 
 pub fn check_look<C: Chip>(
-    rt: &impl Abort,
     store: &Store<C>,
     state: u32,
     sector: u32,
@@ -144,45 +137,38 @@ pub fn check_look<C: Chip>(
 ) -> Result<(), Fail> {
     let mut buffer = [7u8; 512];
     let answer = store.look(Tick(state), SectorNumber(sector), &mut buffer);
-    assert_eq!(rt; data(answer), Ok(true));
-    assert!(rt; buffer == sector_of(byte));
-    Ok(())
+    check_eq(data(answer), Ok(true))?;
+    check(buffer == sector_of(byte))
 }
 
-pub fn check_look_empty<C: Chip>(
-    rt: &impl Abort,
-    store: &Store<C>,
-    state: u32,
-    sector: u32,
-) -> Result<(), Fail> {
+pub fn check_look_empty<C: Chip>(store: &Store<C>, state: u32, sector: u32) -> Result<(), Fail> {
     let mut buffer = [7u8; 512];
     let answer = store.look(Tick(state), SectorNumber(sector), &mut buffer);
-    assert_eq!(rt; data(answer), Ok(false));
-    assert!(rt; buffer == [0; 512]);
-    Ok(())
+    check_eq(data(answer), Ok(false))?;
+    check(buffer == [0; 512])
 }
 
 // The held numbers, rising, then 0.
-pub fn check_held<C: Chip>(rt: &impl Abort, store: &Store<C>, held: &[u32]) -> Result<(), Fail> {
+pub fn check_held<C: Chip>(store: &Store<C>, held: &[u32]) -> Result<(), Fail> {
     let mut buffer = [7u32; 8];
-    assert_eq!(rt; size(store.held(&mut buffer)), Ok(held.len()));
+    check_eq(size(store.held(&mut buffer)), Ok(held.len()))?;
     for (found, wanted) in buffer.iter().zip(held.iter()) {
-        assert_eq!(rt; *found, *wanted);
+        check_eq(*found, *wanted)?;
     }
     for rest in buffer.iter().skip(held.len()) {
-        assert_eq!(rt; *rest, 0);
+        check_eq(*rest, 0)?;
     }
     Ok(())
 }
 
-pub fn check_label<C: Chip>(rt: &impl Abort, store: &Store<C>, label: &[u8]) -> Result<(), Fail> {
+pub fn check_label<C: Chip>(store: &Store<C>, label: &[u8]) -> Result<(), Fail> {
     let mut buffer = [7u8; 32];
-    assert_eq!(rt; size(store.label(&mut buffer)), Ok(label.len()));
+    check_eq(size(store.label(&mut buffer)), Ok(label.len()))?;
     for (found, wanted) in buffer.iter().zip(label.iter()) {
-        assert_eq!(rt; *found, *wanted);
+        check_eq(*found, *wanted)?;
     }
     for rest in buffer.iter().skip(label.len()) {
-        assert_eq!(rt; *rest, 0);
+        check_eq(*rest, 0)?;
     }
     Ok(())
 }

@@ -1,9 +1,8 @@
 // Pages for crafted chips.
-use crate::sector_of;
+use crate::{check, sector_of};
 use chip::{Chip, PAGE_BYTES, PageNumber, SectorNumber};
 use layout_write::{write_data, write_deletion, write_register};
 use limits::{Birth, Held, Label, Register, Sector, Version};
-use std::process::Abort;
 use std::test::Fail;
 
 fn register(birth: u32, held: &[u32]) -> Option<[u8; PAGE_BYTES]> {
@@ -55,12 +54,6 @@ pub fn changed(page: [u8; PAGE_BYTES], at: usize, byte: u8) -> [u8; PAGE_BYTES] 
 }
 
 // Programs a page.
-pub fn put<C: Chip>(
-    rt: &impl Abort,
-    chip: &mut C,
-    page: u32,
-    bytes: &[u8; PAGE_BYTES],
-) -> Result<(), Fail> {
-    assert!(rt; chip.program(PageNumber(page), bytes).is_ok());
-    Ok(())
+pub fn put<C: Chip>(chip: &mut C, page: u32, bytes: &[u8; PAGE_BYTES]) -> Result<(), Fail> {
+    check(chip.program(PageNumber(page), bytes).is_ok())
 }

@@ -4,7 +4,7 @@ use crate::{
     count, delete, format, freeze, mount, release, revert, since, since_in, write,
 };
 use chip::Chip;
-use std::process::Abort;
+use std::fmt::Debug;
 use std::test::Fail;
 use store::Store;
 
@@ -34,80 +34,49 @@ pub enum Step<'a> {
     Label(&'a [u8]),
 }
 
-fn take<C: Chip>(rt: &impl Abort, store: &mut Store<C>, step: Step<'_>) -> Result<(), Fail> {
-    match step {
-        Step::Format(label, answer) => {
-            assert_eq!(rt; format(store, label), answer);
-            Ok(())
-        },
-        Step::Mount(answer) => {
-            assert_eq!(rt; mount(store), answer);
-            Ok(())
-        },
-        Step::Close(answer) => {
-            assert_eq!(rt; close(store), answer);
-            Ok(())
-        },
-        Step::Write(sector, byte, answer) => {
-            assert_eq!(rt; write(store, sector, byte), answer);
-            Ok(())
-        },
-        Step::Delete(sector, answer) => {
-            assert_eq!(rt; delete(store, sector), answer);
-            Ok(())
-        },
-        Step::Freeze(answer) => {
-            assert_eq!(rt; freeze(store), answer);
-            Ok(())
-        },
-        Step::Release(state, answer) => {
-            assert_eq!(rt; release(store, state), answer);
-            Ok(())
-        },
-        Step::Revert(state, answer) => {
-            assert_eq!(rt; revert(store, state), answer);
-            Ok(())
-        },
-        Step::Clean(answer) => {
-            assert_eq!(rt; clean(store), answer);
-            Ok(())
-        },
-        Step::Since(sector, answer) => {
-            assert_eq!(rt; since(store, sector), answer);
-            Ok(())
-        },
-        Step::SinceIn(state, sector, answer) => {
-            assert_eq!(rt; since_in(store, state, sector), answer);
-            Ok(())
-        },
-        Step::Count(answer) => {
-            assert_eq!(rt; count(store), answer);
-            Ok(())
-        },
-        Step::Read(sector, byte) => check_read(rt, store, sector, byte),
-        Step::ReadEmpty(sector) => check_empty(rt, store, sector),
-        Step::Look(state, sector, byte) => check_look(rt, store, state, sector, byte),
-        Step::LookEmpty(state, sector) => check_look_empty(rt, store, state, sector),
-        Step::Held(held) => check_held(rt, store, held),
-        Step::Label(label) => check_label(rt, store, label),
+// The step answered as it must.
+fn agree<T: PartialEq + Debug + Drop>(at: usize, found: T, wanted: T) -> Result<(), Fail> {
+    if found == wanted {
+        Ok(())
+    } else {
+        Err(Fail::new(format_args!("step {at} of the list: found {found:?}, wanted {wanted:?}")))
     }
 }
 
-pub fn play<C: Chip>(
-    rt: &impl Abort,
-    store: &mut Store<C>,
-    steps: &[Step<'_>],
-) -> Result<(), Fail> {
+fn take<C: Chip>(store: &mut Store<C>, at: usize, step: Step<'_>) -> Result<(), Fail> {
+    match step {
+        Step::Format(label, answer) => agree(at, format(store, label), answer),
+        Step::Mount(answer) => agree(at, mount(store), answer),
+        Step::Close(answer) => agree(at, close(store), answer),
+        Step::Write(sector, byte, answer) => agree(at, write(store, sector, byte), answer),
+        Step::Delete(sector, answer) => agree(at, delete(store, sector), answer),
+        Step::Freeze(answer) => agree(at, freeze(store), answer),
+        Step::Release(state, answer) => agree(at, release(store, state), answer),
+        Step::Revert(state, answer) => agree(at, revert(store, state), answer),
+        Step::Clean(answer) => agree(at, clean(store), answer),
+        Step::Since(sector, answer) => agree(at, since(store, sector), answer),
+        Step::SinceIn(state, sector, answer) => agree(at, since_in(store, state, sector), answer),
+        Step::Count(answer) => agree(at, count(store), answer),
+        Step::Read(sector, byte) => check_read(store, sector, byte),
+        Step::ReadEmpty(sector) => check_empty(store, sector),
+        Step::Look(state, sector, byte) => check_look(store, state, sector, byte),
+        Step::LookEmpty(state, sector) => check_look_empty(store, state, sector),
+        Step::Held(held) => check_held(store, held),
+        Step::Label(label) => check_label(store, label),
+    }
+}
+
+pub fn play<C: Chip>(store: &mut Store<C>, steps: &[Step<'_>]) -> Result<(), Fail> {
     for (at, step) in steps.iter().enumerate() {
-        take(rt, store, *step).note(format_args!("step {at} of the list"))?;
+        take(store, at, *step)?;
     }
     Ok(())
 }
 
 // On a closed store over the chip, which is let go afterwards.
-pub fn play_on<C: Chip + Drop>(rt: &impl Abort, chip: C, steps: &[Step<'_>]) -> Result<(), Fail> {
+pub fn play_on<C: Chip + Drop>(chip: C, steps: &[Step<'_>]) -> Result<(), Fail> {
     let mut store = Store::new(chip);
-    let end = play(rt, &mut store, steps);
+    let end = play(&mut store, steps);
     let _ = store.unmount();
     end
 }

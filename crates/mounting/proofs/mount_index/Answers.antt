@@ -1,6 +1,5 @@
 use Rattle.std.proofs.Common.{◌≡◌, ◌*◌, length, replicate, sym, ◌∙◌, arith, length-take}
 use Rattle.layout.specs.declared.pages.Tag.TheVariants as tag
-use Rattle.scan.specs.Scan.{answer}
 use Rattle.mounting.proofs.Store.{verdict_bad, verdict_good, verdict_none, scanned_some}
 use Rattle.mounting.proofs.mount_index.Goals as goal
 

@@ -3,7 +3,7 @@ use Rattle.std.proofs.lemmas.List.{get_or-set_same, get_or-set_other}
 use Rattle.std.proofs.lemmas.Bool.{cases_eq}
 use Rattle.tables.specs.declared.types.Record.{Record}
 use Rattle.tables.specs.Records.{unused, Rest}
-use Rattle.moving.specs.Sound.{Lasting, lasting}
+use Rattle.moving.specs.Sound.{Lasting}
 use Rattle.moving.specs.Moves.{forgotten_at}
 use Rattle.moving.proofs.Places.{in_or_out, is_out, is_in_lem, is_in_more}
 use Rattle.moving.proofs.forget.Goals as goal

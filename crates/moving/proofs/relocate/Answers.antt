@@ -1,6 +1,6 @@
 use Rattle.std.proofs.Common.{◌*◌, Ok, sym, refl, ap, ◌∙◌, subst, arith}
 use Rattle.chip.specs.Pages.{pages_erased}
-use Rattle.moving.specs.Sound.{page_stays, lasting}
+use Rattle.moving.specs.Sound.{page_stays}
 use Rattle.moving.specs.Moves.{Copyable, Copied, forgotten_at}
 use Rattle.moving.proofs.Copies.{not_both}
 use Rattle.moving.proofs.Relocations.{source, target, copyable, relocated}

@@ -1,4 +1,4 @@
-use Rattle.std.proofs.Common.{◌≡◌, suc, ◌+◌, get_or, set, sym, ap, ◌∙◌, add-one, arith}
+use Rattle.std.proofs.Common.{◌≡◌, get_or, set, sym, ap, ◌∙◌, add-one, arith}
 use lib.Bits.{bit_and}
 use Rattle.nor.specs.Image.{word_at}
 use Rattle.nor.specs.Program.{pair_of, and_into, anded, programmed}

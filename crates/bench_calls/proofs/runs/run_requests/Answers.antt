@@ -4,5 +4,5 @@ use Rattle.bench_calls.proofs.runs.run_requests.Goals as goal
 
 pub returns-in-Ok : goal.returns-in-Ok
 returns-in-Ok c =
-    ran_well _ _ c.new-chip.result.image.now _ _ c.run-session-outcome.result.1 c.in-Ok.calls
-    (ap length c.new-chip.ensures.image ∙ c.as-mut-slice.ensures.len ∙ c.in-ok-words.ensures.len) c.in-Ok.is c.run-session-outcome.ensures.ended
+    ran_well _ _ c.new-chip.result.image.now _ _ c.run_session-outcome.result.1 c.in-Ok.calls
+    (ap length c.new-chip.ensures.image ∙ c.as_mut_slice.ensures.len ∙ c.in_ok-words.ensures.len) c.in-Ok.is c.run_session-outcome.ensures.ended

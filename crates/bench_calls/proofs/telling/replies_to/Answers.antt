@@ -2,7 +2,7 @@ use Rattle.std.proofs.Common.{[], ◌∷◌, ◌++◌, vec_items, sym, ap, ◌�
 use Rattle.bench_calls.specs.Replies.{reply_to}
 use Rattle.bench_calls.proofs.Replied.{reply_more, close_more, all_calls}
 use Rattle.bench_calls.proofs.telling.replies_to.Goals as goal
-use Rattle.bench_calls.proofs.telling.replies_to.Goals.{then-not-is-close+in-ok-push, else-not-is-close}
+use Rattle.bench_calls.proofs.telling.replies_to.Goals.{then-not-is_close+in_ok-push, else-not-is_close}
 
 pub loop-call-preserved : goal.loop-call-preserved
 loop-call-preserved c =
@@ -10,12 +10,12 @@ loop-call-preserved c =
     let i = c.loop-call.call-index in
     let m = c.call-item.result in
     let old = vec_items c.loop-call.replies in
-    elim c.if-not-is-close.branch [
-      | then-not-is-close+in-ok-push w ↦
-          reply_more calls old _ i m c.loop-call-test.true c.call-item.is c.loop-call.invariant (sym c.is-close.ensures ∙ w.if-not-is-close.true)
-          (ap vec_items w.replies-is ∙ w.in-ok-push.ensures.items ∙ ap (λ x. old ++ (x ∷ [])) w.reply-to.ensures)
-      | else-not-is-close w ↦
-          close_more calls old _ i m c.loop-call-test.true c.call-item.is c.loop-call.invariant (sym c.is-close.ensures ∙ w.if-not-is-close.false) (ap vec_items w.replies-is)
+    elim c.if-not-is_close.branch [
+      | then-not-is_close+in_ok-push w ↦
+          reply_more calls old _ i m c.loop-call-test.true c.call-item.is c.loop-call.invariant (sym c.is_close.ensures ∙ w.if-not-is_close.true)
+          (ap vec_items w.replies-is ∙ w.in_ok-push.ensures.items ∙ ap (λ x. old ++ (x ∷ [])) w.reply_to.ensures)
+      | else-not-is_close w ↦
+          close_more calls old _ i m c.loop-call-test.true c.call-item.is c.loop-call.invariant (sym c.is_close.ensures ∙ w.if-not-is_close.false) (ap vec_items w.replies-is)
     ]
 
 pub returns : goal.returns

@@ -1,4 +1,4 @@
-use Rattle.std.proofs.Common.{◌≡◌, true, false, [], ◌∷◌, ◌++◌, sym, refl, ap, ◌∙◌, subst, arith}
+use Rattle.std.proofs.Common.{true, false, refl}
 use Rattle.std.proofs.lemmas.Bool.{le-ltb, lt-ltb}
 use Rattle.rules.specs.Told.{tick_value}
 use Rattle.calls.proofs.Exits.{refused_at, freezing_many, freezing_ticks, freezing_granted, rule_freeze, rule_open}

@@ -1,4 +1,4 @@
-use Rattle.std.proofs.Common.{◌≡◌, ◌+◌, [], ◌∷◌, ◌++◌, sym, refl, ap, ◌∙◌, arith}
+use Rattle.std.proofs.Common.{◌+◌, [], ◌∷◌, ◌++◌, refl, ap, ◌∙◌, arith}
 use Rattle.limits.specs.Values.{held_of}
 use Rattle.std.proofs.lemmas.List.{length_push}
 use Rattle.calls.proofs.Holding.{up_some, up_none}

@@ -1,4 +1,4 @@
-use Rattle.std.proofs.Common.{◌≡◌, true, false, sym, refl, ap, ◌∙◌, subst}
+use Rattle.std.proofs.Common.{true, false, refl, ◌∙◌}
 use Rattle.limits.specs.Values.{held_of}
 use Rattle.rules.specs.Told.{tick_value}
 use Rattle.calls.proofs.Exits.{refused_at, going_unknown, going_ticks, going_granted, rule_revert, rule_back}

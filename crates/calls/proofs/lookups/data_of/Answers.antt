@@ -1,4 +1,4 @@
-use Rattle.std.proofs.Common.{◌≡◌, sym, ap, ◌∙◌, subst}
+use Rattle.std.proofs.Common.{sym, ap, ◌∙◌, subst}
 use Rattle.noting.specs.Lookups.{Shows}
 use Rattle.calls.specs.Holds.{is_data}
 use Rattle.calls.proofs.Data.{data_held, none_held}

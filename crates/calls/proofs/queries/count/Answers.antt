@@ -1,4 +1,4 @@
-use Rattle.std.proofs.Common.{◌≡◌, [], ◌∷◌, ap, ◌∙◌}
+use Rattle.std.proofs.Common.{[], ◌∷◌, ap, ◌∙◌}
 use Rattle.readings.specs.Mount.{capacity}
 use Rattle.changing.proofs.Adding.{consistent}
 use Rattle.rules.specs.Calls.{granted}

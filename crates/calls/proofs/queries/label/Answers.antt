@@ -1,7 +1,5 @@
-use Rattle.std.proofs.Common.{◌≡◌, ℕ, [], ◌∷◌, length, replicate, sym, refl, ap, ◌∙◌}
+use Rattle.std.proofs.Common.{ℕ, [], ◌∷◌, length, replicate, sym, refl, ap, ◌∙◌}
 use Rattle.std.proofs.lemmas.Bool.{eqb-true}
-use Rattle.readings.specs.Sayings.{sayings}
-use Rattle.readings.specs.Reading.{reading}
 use Rattle.rules.specs.Calls.{granted, filled}
 use Rattle.rules.specs.Told.{size_value}
 use Rattle.limits.specs.Values.{label_of}

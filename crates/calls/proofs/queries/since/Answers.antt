@@ -1,4 +1,4 @@
-use Rattle.std.proofs.Common.{◌≡◌, [], Ok, refl, ap, ◌∙◌}
+use Rattle.std.proofs.Common.{[], Ok, refl, ap, ◌∙◌}
 use Rattle.readings.specs.Sayings.{sayings}
 use Rattle.readings.specs.Reading.{reading}
 use Rattle.readings.specs.Changes.{present}

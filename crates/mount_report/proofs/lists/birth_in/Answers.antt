@@ -9,7 +9,7 @@ pub returns-in-Present : goal.returns-in-Present
 returns-in-Present g c =
     let v = seen g.C.Chip.blocks g.C.Chip.per g.C.Chip.pages c.args.store.now in
     let s = c.args.sector in
-    since_value_lem v c.requires.ready s c.requires.sector c.since.result None c.unwrap-or.result c.unwrap-or.ensures c.since.ensures
+    since_value_lem v c.requires.ready s c.requires.sector c.since.result None c.unwrap_or.result c.unwrap_or.ensures c.since.ensures
     ∙ ap (λ state. born_at (version_in (reading_of v) state s)) (sym c.in-Present.is)
 
 pub returns-in-Frozen : goal.returns-in-Frozen
@@ -17,5 +17,5 @@ returns-in-Frozen g c =
     let v = seen g.C.Chip.blocks g.C.Chip.per g.C.Chip.pages c.args.store.now in
     let s = c.args.sector in
     let known = subst (Known (reading_of v)) c.in-Frozen.is c.requires.known in
-    since_in_value v c.requires.ready s c.requires.sector c.since-in.result None c.unwrap-or-in-Frozen.result c.unwrap-or-in-Frozen.ensures c.in-Frozen.number known c.since-in.ensures
+    since_in_value v c.requires.ready s c.requires.sector c.since_in.result None c.unwrap_or-in-Frozen.result c.unwrap_or-in-Frozen.ensures c.in-Frozen.number known c.since_in.ensures
     ∙ ap (λ state. born_at (version_in (reading_of v) state s)) (sym c.in-Frozen.is)

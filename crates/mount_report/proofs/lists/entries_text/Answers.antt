@@ -22,9 +22,9 @@ pub loop-sector-preserved : goal.loop-sector-preserved
 loop-sector-preserved g c =
     let r = reading_of (seen g.C.Chip.blocks g.C.Chip.per g.C.Chip.pages c.args.store.now) in
     let n = c.loop-sector.sector in
-    let text = pushed c.as-str.result.now refl c.in-ok-push-str.was c.push-str.ensures.bytes in
-    let part = c.as-str.ensures.value ∙ c.in-ok-entry.ensures ∙ ap (entry n) c.birth-in.ensures in
-    text ∙ ap (λ z. z ++ c.as-str.result.now) c.loop-sector.invariant ∙ ap (λ z. entries r c.args.state n ++ z) part ∙ one_more r c.args.state n
+    let text = pushed c.as_str.result.now refl c.in_ok-push_str.was c.push_str.ensures.bytes in
+    let part = c.as_str.ensures.value ∙ c.in_ok-entry.ensures ∙ ap (entry n) c.birth_in.ensures in
+    text ∙ ap (λ z. z ++ c.as_str.result.now) c.loop-sector.invariant ∙ ap (λ z. entries r c.args.state n ++ z) part ∙ one_more r c.args.state n
 
 pub returns : goal.returns
 returns g c =

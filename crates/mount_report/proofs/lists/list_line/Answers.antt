@@ -5,7 +5,7 @@ use Rattle.mount_report.proofs.lists.list_line.Goals as goal
 
 pub returns : goal.returns
 returns g c =
-    let entries = c.in-ok-entries.ensures ∙ ap or_none c.in-ok-entries-text.ensures in
-    c.in-ok-text.ensures.ok
-    ∙ ap (λ z. line (z ∷ codes ":" ∷ string_bytes c.in-ok-entries.entries ∷ [])) c.in-ok-name.ensures
+    let entries = c.in_ok-entries.ensures ∙ ap or_none c.in_ok-entries_text.ensures in
+    c.in_ok-text.ensures.ok
+    ∙ ap (λ z. line (z ∷ codes ":" ∷ string_bytes c.in_ok-entries.entries ∷ [])) c.in_ok-name.ensures
     ∙ ap (λ z. line (state_name c.args.state ∷ codes ":" ∷ z ∷ [])) entries

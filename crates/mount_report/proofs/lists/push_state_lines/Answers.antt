@@ -13,8 +13,8 @@ piece r n = list_line r (Frozen n)
 pub loop-number-preserved : goal.loop-number-preserved
 loop-number-preserved g c =
     let r = reading_of (seen g.C.Chip.blocks g.C.Chip.per g.C.Chip.pages c.args.store.now) in
-    let text = pushed c.as-str.result.now refl c.in-ok-push-str.was c.push-str.ensures.bytes in
-    let part = c.as-str.ensures.value ∙ c.in-ok-line.ensures in
+    let text = pushed c.as_str.result.now refl c.in_ok-push_str.was c.push_str.ensures.bytes in
+    let part = c.as_str.ensures.value ∙ c.in_ok-line.ensures in
     joins_more (piece r) (string_bytes c.args.text.now) c.args.numbers.now c.loop-number.number-index 0 c.loop-number-test.true c.loop-number.invariant (text ∙ ap (λ z. string_bytes c.loop-number.text ++ z) part)
 
 pub returns : goal.returns

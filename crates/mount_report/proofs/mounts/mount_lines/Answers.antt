@@ -6,8 +6,8 @@ use Rattle.mount_report.proofs.Granted.{some_number}
 use Rattle.mount_report.proofs.Verdicts.{refused_text, opened_ready, opened_clock, opened_text_lem}
 use Rattle.mount_report.proofs.mounts.mount_lines.Goals as goal
 
-pub opened-text-requires : goal.opened-text-requires
-opened-text-requires g c =
+pub opened_text-requires : goal.opened_text-requires
+opened_text-requires g c =
     let see = seen g.C.Chip.blocks g.C.Chip.per g.C.Chip.pages in
     let v = see c.args.store.now in
     let w = see c.mount.new.self in
@@ -25,7 +25,7 @@ returns-in-Ok g c =
       kept = c.mount.ensures.kept;
       blocks = same.same_size.blocks;
       pages = same.pages;
-      text = λ _. IfOk-weaker c.opened-text.result _ (λ text. string_bytes text ≡ mount_text v.blocks v.per v.pages) (λ _ e. e ∙ opened_text_lem v w c.in-Ok.clock mounts) c.opened-text.ensures;
+      text = λ _. IfOk-weaker c.opened_text.result _ (λ text. string_bytes text ≡ mount_text v.blocks v.per v.pages) (λ _ e. e ∙ opened_text_lem v w c.in-Ok.clock mounts) c.opened_text.ensures;
     }
 
 pub returns-in-Err : goal.returns-in-Err
@@ -39,5 +39,5 @@ returns-in-Err g c =
       kept = c.mount.ensures.kept;
       blocks = ap (λ (z : View). z.blocks) same;
       pages = ap (λ (z : View). z.pages) same;
-      text = λ closed. IfOk-weaker c.refusal-line.result _ (λ text. string_bytes text ≡ mount_text v.blocks v.per v.pages) (λ _ e. e ∙ refused_text v w c.in-Err.refusal mounts (ap open_mode closed)) c.refusal-line.ensures;
+      text = λ closed. IfOk-weaker c.refusal_line.result _ (λ text. string_bytes text ≡ mount_text v.blocks v.per v.pages) (λ _ e. e ∙ refused_text v w c.in-Err.refusal mounts (ap open_mode closed)) c.refusal_line.ensures;
     }

@@ -7,6 +7,6 @@ pub returns : goal.returns
 returns c =
     let clock = c.args.clock.0 in
     let count = c.args.count in
-    c.in-ok-text.ensures.ok
-    ∙ ap (λ h. line (codes "mount: 0, clock " ∷ decimal clock ∷ codes ", held " ∷ h ∷ codes ", label " ∷ string_bytes c.in-ok-label.label ∷ codes ", needed " ∷ decimal count.needed ∷ codes " of " ∷ decimal count.capacity ∷ [])) c.in-ok-held.ensures
-    ∙ ap (λ l. line (codes "mount: 0, clock " ∷ decimal clock ∷ codes ", held " ∷ held_text c.args.held.now ∷ codes ", label " ∷ l ∷ codes ", needed " ∷ decimal count.needed ∷ codes " of " ∷ decimal count.capacity ∷ [])) c.in-ok-label.ensures
+    c.in_ok-text.ensures.ok
+    ∙ ap (λ h. line (codes "mount: 0, clock " ∷ decimal clock ∷ codes ", held " ∷ h ∷ codes ", label " ∷ string_bytes c.in_ok-label.label ∷ codes ", needed " ∷ decimal count.needed ∷ codes " of " ∷ decimal count.capacity ∷ [])) c.in_ok-held.ensures
+    ∙ ap (λ l. line (codes "mount: 0, clock " ∷ decimal clock ∷ codes ", held " ∷ held_text c.args.held.now ∷ codes ", label " ∷ l ∷ codes ", needed " ∷ decimal count.needed ∷ codes " of " ∷ decimal count.capacity ∷ [])) c.in_ok-label.ensures

@@ -5,11 +5,11 @@ use Rattle.mount_report.proofs.Buffers.{size_fits_lem, front_is}
 use Rattle.mount_report.proofs.Granted.{held_filled}
 use Rattle.mount_report.proofs.opened.held_numbers.Goals as goal
 
-pub slice-bounds-from-slice-end : goal.slice-bounds-from-slice-end
-slice-bounds-from-slice-end g c =
+pub slice_bounds-from_slice-end : goal.slice_bounds-from_slice-end
+slice_bounds-from_slice-end g c =
     let v = seen g.C.Chip.blocks g.C.Chip.per g.C.Chip.pages c.args.store.now in
     let says = held_filled v c.requires _ c.held.new.buffer c.held.result refl c.held.ensures in
-    let fits = size_fits_lem 8 _ c.held.new.buffer c.held.result c.unwrap-or-count.result c.unwrap-or-count.ensures says in
+    let fits = size_fits_lem 8 _ c.held.new.buffer c.held.result c.unwrap_or-count.result c.unwrap_or-count.ensures says in
     omega arith
 
 pub returns : goal.returns
@@ -17,5 +17,5 @@ returns g c =
     let v = seen g.C.Chip.blocks g.C.Chip.per g.C.Chip.pages c.args.store.now in
     let xs = reverse (reading_of v).held in
     let says = held_filled v c.requires _ c.held.new.buffer c.held.result refl c.held.ensures in
-    let front = front_is 8 xs c.held.new.buffer c.held.result c.unwrap-or-count.result c.unwrap-or-count.ensures says in
-    IfOk-weaker c.from-slice.result _ (λ v. vec_items v ≡ xs) (λ _ e. e.0 ∙ front) c.from-slice.ensures.made
+    let front = front_is 8 xs c.held.new.buffer c.held.result c.unwrap_or-count.result c.unwrap_or-count.ensures says in
+    IfOk-weaker c.from_slice.result _ (λ v. vec_items v ≡ xs) (λ _ e. e ∙ front) c.from_slice.ensures.items

@@ -5,11 +5,11 @@ use Rattle.mount_report.proofs.Buffers.{size_fits_lem, front_is}
 use Rattle.mount_report.proofs.Granted.{label_filled}
 use Rattle.mount_report.proofs.opened.label_bytes.Goals as goal
 
-pub slice-bounds-from-slice-end : goal.slice-bounds-from-slice-end
-slice-bounds-from-slice-end g c =
+pub slice_bounds-from_slice-end : goal.slice_bounds-from_slice-end
+slice_bounds-from_slice-end g c =
     let v = seen g.C.Chip.blocks g.C.Chip.per g.C.Chip.pages c.args.store.now in
     let says = label_filled v c.requires _ c.label.new.buffer c.label.result refl c.label.ensures in
-    let fits = size_fits_lem 32 _ c.label.new.buffer c.label.result c.unwrap-or-size.result c.unwrap-or-size.ensures says in
+    let fits = size_fits_lem 32 _ c.label.new.buffer c.label.result c.unwrap_or-size.result c.unwrap_or-size.ensures says in
     omega arith
 
 pub returns : goal.returns
@@ -17,5 +17,5 @@ returns g c =
     let v = seen g.C.Chip.blocks g.C.Chip.per g.C.Chip.pages c.args.store.now in
     let xs = (reading_of v).label in
     let says = label_filled v c.requires _ c.label.new.buffer c.label.result refl c.label.ensures in
-    let front = front_is 32 xs c.label.new.buffer c.label.result c.unwrap-or-size.result c.unwrap-or-size.ensures says in
-    IfOk-weaker c.from-slice.result _ (λ v. vec_items v ≡ xs) (λ _ e. e.0 ∙ front) c.from-slice.ensures.made
+    let front = front_is 32 xs c.label.new.buffer c.label.result c.unwrap_or-size.result c.unwrap_or-size.ensures says in
+    IfOk-weaker c.from_slice.result _ (λ v. vec_items v ≡ xs) (λ _ e. e ∙ front) c.from_slice.ensures.items

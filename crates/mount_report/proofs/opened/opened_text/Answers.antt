@@ -22,17 +22,17 @@ module _ (cap : ℕ) (r : Reading) {held : List ℕ} (the_held_is : held ≡ rev
   all_lines {first} {list} {two} first_is list_is two_is all_is =
       all_is ∙ ap (λ z. two ++ state_lines r z) the_held_is ∙ ap (λ z. z ++ state_lines r (reverse r.held)) (two_is ∙ ap (λ z. first ++ z) list_is ∙ ap (λ z. z ++ list_line r Present) first_is)
 
-pub push-state-lines-requires : goal.push-state-lines-requires
-push-state-lines-requires g c =
-    record { ready = c.requires.ready; known = each_held _ c.as-slice-3.result.now (c.as-slice-3.ensures.value ∙ c.in-ok-held.ensures) }
+pub push_state_lines-requires : goal.push_state_lines-requires
+push_state_lines-requires g c =
+    record { ready = c.requires.ready; known = each_held _ c.as_slice-3.result.now (c.as_slice-3.ensures.value ∙ c.in_ok-held.ensures) }
 
 pub returns : goal.returns
 returns g c =
     let v = seen g.C.Chip.blocks g.C.Chip.per g.C.Chip.pages c.args.store.now in
     let r = reading_of v in
-    let held = c.in-ok-held.ensures in
-    let label = c.as-slice-2.ensures.value ∙ c.in-ok-label.ensures in
-    let first = first_line (capacity_of v) r (c.as-slice.ensures.value ∙ held) c.count-of-count.result c.in-ok-text.ensures c.requires.clock label c.count-of-count.ensures in
-    let list = c.as-str.ensures.value ∙ c.in-ok-present.ensures in
-    let two = pushed c.as-str.result.now refl c.in-ok-push-str.was c.push-str.ensures.bytes in
-    all_lines (capacity_of v) r (c.as-slice-3.ensures.value ∙ held) first list two c.in-ok-push-state-lines.ensures
+    let held = c.in_ok-held.ensures in
+    let label = c.as_slice-2.ensures.value ∙ c.in_ok-label.ensures in
+    let first = first_line (capacity_of v) r (c.as_slice.ensures.value ∙ held) c.count_of-count.result c.in_ok-text.ensures c.requires.clock label c.count_of-count.ensures in
+    let list = c.as_str.ensures.value ∙ c.in_ok-present.ensures in
+    let two = pushed c.as_str.result.now refl c.in_ok-push_str.was c.push_str.ensures.bytes in
+    all_lines (capacity_of v) r (c.as_slice-3.ensures.value ∙ held) first list two c.in_ok-push_state_lines.ensures

@@ -20,11 +20,11 @@ returns g c =
     let m = g.C.Chip in
     let chip = c.args.chip in
     let made = c.new-store.ensures in
-    let mounted = c.mount-lines-lines.ensures in
-    let told = c.as-str.ensures.value ∙ c.in-ok-lines.ensures.text made.closed ∙ ap (λ z. mount_text (m.blocks z) m.per (m.pages z)) made.chip in
-    c.in-ok-text.ensures
-    ∙ same_report (name_of c.args.make) m.per c.args.file-bytes c.left-over-left.result (m.blocks c.unmount-chip.result) (m.blocks chip) (m.pages c.unmount-chip.result) (m.pages chip) c.as-str.result.now (mount_text (m.blocks chip) m.per (m.pages chip))
-    c.left-over-left.ensures
+    let mounted = c.mount_lines-lines.ensures in
+    let told = c.as_str.ensures.value ∙ c.in_ok-lines.ensures.text made.closed ∙ ap (λ z. mount_text (m.blocks z) m.per (m.pages z)) made.chip in
+    c.in_ok-text.ensures
+    ∙ same_report (name_of c.args.make) m.per c.args.file_bytes c.left_over-left.result (m.blocks c.unmount-chip.result) (m.blocks chip) (m.pages c.unmount-chip.result) (m.pages chip) c.as_str.result.now (mount_text (m.blocks chip) m.per (m.pages chip))
+    c.left_over-left.ensures
     (ap m.blocks c.unmount-chip.ensures ∙ mounted.blocks ∙ ap m.blocks made.chip)
     (ap m.pages c.unmount-chip.ensures ∙ mounted.pages ∙ ap m.pages made.chip)
     told

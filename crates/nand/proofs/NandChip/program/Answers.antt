@@ -1,4 +1,4 @@
-use Rattle.std.proofs.Common.{◌≡◌, ◌+◌, ◌-◌, ◌*◌, ◌<◌, Bool, true, false, [], length, get_or, take, drop, set, sym, refl, ap, ◌∙◌, arith}
+use Rattle.std.proofs.Common.{◌≡◌, ◌+◌, ◌-◌, ◌*◌, ◌<◌, true, false, [], length, get_or, take, drop, set, sym, refl, ap, ◌∙◌, arith}
 use Rattle.chip.specs.Pages.{is_erased}
 use Rattle.chip.proofs.Ways.{program_no_page, program_length, program_not_erased, program_granted}
 use Rattle.nand.specs.Image.{nand_pages, nand_blocks}

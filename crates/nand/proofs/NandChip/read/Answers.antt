@@ -1,4 +1,4 @@
-use Rattle.std.proofs.Common.{◌≡◌, ◌+◌, ◌*◌, ◌/◌, ◌%◌, ◌<◌, sym, ap, ◌∙◌, arith}
+use Rattle.std.proofs.Common.{◌≡◌, ◌+◌, ◌*◌, ◌<◌, sym, ap, ◌∙◌, arith}
 use Rattle.chip.proofs.Ways.{read_no_page, read_length, read_granted}
 use Rattle.nand.specs.Image.{nand_pages, nand_blocks}
 use Rattle.nand.specs.Shaped.{length_nand}

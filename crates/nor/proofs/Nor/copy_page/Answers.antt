@@ -1,4 +1,4 @@
-use Rattle.std.proofs.Common.{◌≡◌, ◌+◌, ◌*◌, ◌/◌, ◌%◌, length, get_or, sym, ap, ◌∙◌, arith, length-set}
+use Rattle.std.proofs.Common.{◌+◌, ◌*◌, ◌/◌, ◌%◌, get_or, sym, ap, ◌∙◌, arith, length-set}
 use Rattle.nor.proofs.Words.{copy_more, page_bytewise, word_of_lem}
 use Rattle.nor.proofs.Nor.copy_page.Goals as goal
 

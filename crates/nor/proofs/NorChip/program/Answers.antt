@@ -2,7 +2,6 @@ use Rattle.std.proofs.Common.{◌≡◌, ◌+◌, ◌*◌, ◌<◌, true, false,
 use Rattle.chip.specs.Pages.{is_erased}
 use Rattle.chip.proofs.Ways.{program_no_page, program_length, program_not_erased, program_granted}
 use Rattle.nor.specs.Image.{nor_page, nor_pages, nor_blocks}
-use Rattle.nor.specs.Program.{programmed}
 use Rattle.nor.specs.Shaped.{length_nor}
 use Rattle.nor.proofs.Changes.{get_or_nor, kept_nor, same_blocks, pages_programmed_lem, length_programmed, rest_programmed}
 use Rattle.nor.proofs.NorChip.program.Goals as goal

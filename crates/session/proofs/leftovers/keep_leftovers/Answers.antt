@@ -11,15 +11,15 @@ pub loop-heap-preserved : goal.loop-heap-preserved
 loop-heap-preserved g c =
     let inv = c.loop-heap.invariant in
     let r = c.remove-slip.ensures in
-    let p = c.push-reserved.ensures in
+    let p = c.push_reserved.ensures in
     let some : 0 < length (vec_items c.loop-heap.slips) = omega (arith, r.len, c.loop-heap.slips.ok.0) in
     let number = ap (λ (t : Tick). t.0) c.number-state.ensures in
-    let call = first_kept _ _ _ _ c.remove-slip.result r.value some r.items _ _ _ number c.tell-tick-said.ensures c.keep.ensures.does in (
+    let call = first_kept _ _ _ _ c.remove-slip.result r.value some r.items _ _ _ number c.tell_tick-said.ensures c.keep.ensures.does in (
       omega (arith, inv.0, r.len, p.len, p.capacity),
       c.keep.ensures.kept ∙ inv.1,
       (
         c.number-state.result.0 ∷ inv.2.0,
-        goes_on _ _ _ _ _ _ _ _ _ _ _ inv.2.1 (on_made _ _ _ _ _ _ _ _ p.items (ap (said_with c.tell-tick-said.result) (both c.new-bytes.ensures.items c.new-numbers.ensures.items)) call),
+        goes_on _ _ _ _ _ _ _ _ _ _ _ inv.2.1 (on_made _ _ _ _ _ _ _ _ p.items (ap (said_with c.tell_tick-said.result) (both c.new-bytes.ensures.items c.new-numbers.ensures.items)) call),
       ),
     )
 

@@ -9,15 +9,15 @@ returns-in-Some g c =
     let turn = c.in-Some.ensures.turn in
     let bs = c.perform.new.bytes in
     let ns = c.perform.new.numbers in
-    let b = with_items_is c.args.blank.bytes bs (omega (arith, c.perform.auto.bytes, c.as-mut-slice.ensures.len)) in
-    let n = with_items_is c.args.blank.numbers ns (omega (arith, c.perform.auto.numbers, c.as-mut-slice-2.ensures.len)) in
+    let b = with_items_is c.args.blank.bytes bs (omega (arith, c.perform.auto.bytes, c.as_mut_slice.ensures.len)) in
+    let n = with_items_is c.args.blank.numbers ns (omega (arith, c.perform.auto.numbers, c.as_mut_slice-2.ensures.len)) in
     record {
       kept = c.perform.ensures.kept;
-      slip-capacity = c.perform.ensures.capacity;
-      capacity = c.push-reserved.ensures.capacity;
-      slip-bound = pile_bound _ _ _ _ c.args.slips.now.ok.0 c.perform.new.slips.ok.0 _ _ turn.slips;
-      bound = omega (arith, c.push-reserved.ensures.len);
-      goes = on_made _ _ _ _ _ _ _ _ c.push-reserved.ensures.items (ap (said_with c.in-Some.said) (both b n)) turn;
+      slip_capacity = c.perform.ensures.capacity;
+      capacity = c.push_reserved.ensures.capacity;
+      slip_bound = pile_bound _ _ _ _ c.args.slips.now.ok.0 c.perform.new.slips.ok.0 _ _ turn.slips;
+      bound = omega (arith, c.push_reserved.ensures.len);
+      goes = on_made _ _ _ _ _ _ _ _ c.push_reserved.ensures.items (ap (said_with c.in-Some.said) (both b n)) turn;
     }
 
 pub returns-in-None : goal.returns-in-None
@@ -25,9 +25,9 @@ returns-in-None g c =
     let turn = c.in-None.ensures.turn in
     record {
       kept = c.perform.ensures.kept;
-      slip-capacity = c.perform.ensures.capacity;
+      slip_capacity = c.perform.ensures.capacity;
       capacity = refl;
-      slip-bound = pile_same _ _ _ _ c.args.slips.now.ok.0 c.perform.new.slips.ok.0 _ turn.slips;
+      slip_bound = pile_same _ _ _ _ c.args.slips.now.ok.0 c.perform.new.slips.ok.0 _ turn.slips;
       bound = omega arith;
       goes = on_left_out _ _ _ _ _ _ turn;
     }

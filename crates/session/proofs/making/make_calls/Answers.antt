@@ -7,8 +7,8 @@ use Rattle.session.proofs.making.make_calls.Goals as goal
 pub loop-blank-init : goal.loop-blank-init
 loop-blank-init g c = (c.requires.ready, c.requires.slip_room, c.requires.room, refl, ([], sym (append-nil _), λ label blocks cs st. st))
 
-pub make-call-requires : goal.make-call-requires
-make-call-requires g c =
+pub make_call-requires : goal.make_call-requires
+make_call-requires g c =
     let inv = c.loop-blank.invariant in
     let p = c.in-Some.ensures in
     let opens = opens_popped _ _ _ p.items in
@@ -22,11 +22,11 @@ pub loop-blank-preserved : goal.loop-blank-preserved
 loop-blank-preserved g c =
     let inv = c.loop-blank.invariant in
     let p = c.in-Some.ensures in
-    let e = c.make-call.ensures in
+    let e = c.make_call.ensures in
     let opens = opens_popped _ _ _ p.items in (
       (ready_popped _ _ _ p.items inv.0).0,
-      omega (arith, opens, inv.1, e.slip-bound, e.slip-capacity),
-      omega (arith, opens, inv.2, e.slip-bound, e.bound, e.capacity, p.cases),
+      omega (arith, opens, inv.1, e.slip_bound, e.slip_capacity),
+      omega (arith, opens, inv.2, e.slip_bound, e.bound, e.capacity, p.cases),
       e.kept ∙ inv.3,
       (blank_call c.in-Some.blank ∷ inv.4.0, split_popped _ _ _ p.items _ _ inv.4.1, goes_on _ _ _ _ _ _ _ _ _ _ _ inv.4.2 e.goes),
     )
@@ -34,5 +34,5 @@ loop-blank-preserved g c =
 pub returns : goal.returns
 returns g c =
     let inv = c.loop-blank.invariant in
-    let all = none_left _ _ _ _ c.loop-blank.blanks.ok.0 c.in-default.ensures.cases.0 inv.4.1 in
+    let all = none_left _ _ _ _ c.loop-blank.blanks.ok.0 c.in_default.ensures.cases.0 inv.4.1 in
     record { kept = inv.3; room = omega (arith, inv.2); goes = goes_as _ _ _ _ _ _ _ _ all inv.4.2 }

@@ -9,11 +9,11 @@ pub loop-i-init : goal.loop-i-init
 loop-i-init c =
     let qs = c.args.requests.now in
     let all : length qs ≤ length qs = omega arith in
-    subst (λ (bs : List Blank). Blanks (drop (length qs) qs) bs) (sym c.in-ok-blanks.ensures.items) (no_blanks _ (drop_all (length qs) qs all))
+    subst (λ (bs : List Blank). Blanks (drop (length qs) qs) bs) (sym c.in_ok-blanks.ensures.items) (no_blanks _ (drop_all (length qs) qs all))
 
 pub loop-i-preserved : goal.loop-i-preserved
 loop-i-preserved c =
-    blanks_more c.args.requests.now c.loop-i.i _ _ _ _ c.loop-i-test.true c.loop-i.auto.i c.in-ok-blank.ensures c.in-ok-push.ensures.items c.loop-i.invariant
+    blanks_more c.args.requests.now c.loop-i.i _ _ _ _ c.loop-i-test.true c.loop-i.auto.i c.in_ok-blank.ensures c.in_ok-push.ensures.items c.loop-i.invariant
 
 pub returns : goal.returns
 returns c =

@@ -8,7 +8,7 @@ use Rattle.session.proofs.memory.count_opens.Goals as goal
 pub loop-blank-preserved : goal.loop-blank-preserved
 loop-blank-preserved c =
     let more = opens_more c.args.blanks.now c.loop-blank.blank-index c.blank-item.result c.loop-blank-test.true c.blank-item.is in
-    (omega (arith, more, c.opens-by-opens.ensures.value, c.loop-blank.invariant.0), omega arith)
+    (omega (arith, more, c.opens_by-opens.ensures.value, c.loop-blank.invariant.0), omega arith)
 
 pub returns : goal.returns
 returns c =

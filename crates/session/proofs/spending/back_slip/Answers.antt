@@ -7,8 +7,8 @@ pub returns-in-Some : goal.returns-in-Some
 returns-in-Some g c =
     record {
       kept = c.back.ensures.kept;
-      capacity = c.take-slip.ensures.capacity;
-      turn = gone_back _ _ _ _ _ _ _ _ c.in-Some.ensures.taken c.tell-tick.ensures c.back.ensures.does;
+      capacity = c.take_slip.ensures.capacity;
+      turn = gone_back _ _ _ _ _ _ _ _ c.in-Some.ensures.taken c.tell_tick.ensures c.back.ensures.does;
     }
 
 pub returns-in-None : goal.returns-in-None
@@ -16,6 +16,6 @@ returns-in-None g c =
     let none = c.in-None.ensures.taken in
     record {
       kept = refl;
-      capacity = c.take-slip.ensures.capacity;
+      capacity = c.take_slip.ensures.capacity;
       turn = record { not_in_hand = none.0; store = refl; slips = ap slip_numbers none.1 };
     }

@@ -7,8 +7,8 @@ pub returns-in-Ok : goal.returns-in-Ok
 returns-in-Ok g c =
     record {
       kept = c.«open».ensures.kept;
-      capacity = c.push-reserved.ensures.capacity;
-      called = opened _ _ _ _ _ _ _ c.in-Ok.ensures.does (c.from.ensures ∙ ap (λ (t : Tick). t.0) c.number-number.ensures) c.tell-grant.ensures c.push-reserved.ensures.items;
+      capacity = c.push_reserved.ensures.capacity;
+      called = opened _ _ _ _ _ _ _ c.in-Ok.ensures.does (c.from.ensures ∙ ap (λ (t : Tick). t.0) c.number-number.ensures) c.tell_grant.ensures c.push_reserved.ensures.items;
     }
 
 pub returns-in-Err : goal.returns-in-Err
@@ -16,5 +16,5 @@ returns-in-Err g c =
     record {
       kept = c.«open».ensures.kept;
       capacity = refl;
-      called = not_opened _ _ _ _ _ c.in-Err.ensures.does c.tell-refusal.ensures;
+      called = not_opened _ _ _ _ _ c.in-Err.ensures.does c.tell_refusal.ensures;
     }

@@ -1,4 +1,4 @@
-use Rattle.std.proofs.Common.{◌≡◌, ◌≤◌, length, sym, refl, ◌∙◌, arith}
+use Rattle.std.proofs.Common.{◌≤◌, length, sym, refl, arith}
 use Rattle.std.proofs.lemmas.List.{set_past}
 use Rattle.tables.proofs.index.Index.put.Goals as goal
 
