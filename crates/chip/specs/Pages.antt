@@ -1,6 +1,6 @@
 -- What each call of a chip answers and leaves, over the list of the chip's pages.
 use Rattle.std.specs.Prelude.{◌≡◌, ℕ, ◌+◌, ◌*◌, ◌/◌, ◌%◌, ◌≤◌, Bool, true, cond, ◌&&◌, List, [], ◌∷◌, ◌++◌, length, take, drop, replicate, Ok, Err, Result, ◌==◌, nat_lt, slice_index_or, slice_set}
-use Rattle.std.specs.List.{AllByRecursion as All}
+use Rattle.std.specs.List.{AllByRecursion}
 use Rattle.chip.specs.declared.BlockNumber.{BlockNumber}
 use Rattle.chip.specs.declared.ChipFault.{ChipFault}
 use Rattle.chip.specs.declared.ChipFault.TheVariants.{OutOfRange, BufferLength, NotErased}
@@ -62,4 +62,4 @@ pub record Shape {C : Type 0} (per : ℕ) (blocks : C → ℕ) (pages : C → Li
   pub most : per ≤ 64
   pub few : (c : C) → blocks c ≤ 4096
   pub whole : (c : C) → length (pages c) ≡ blocks c * per
-  pub full : (c : C) → All (λ p. length p ≡ 528) (pages c)
+  pub full : (c : C) → AllByRecursion (λ p. length p ≡ 528) (pages c)

@@ -1,6 +1,6 @@
 -- A page that is neither erased nor bad is what is written for its meaning.
 use Rattle.std.proofs.Common.{◌≡◌, ℕ, zero, suc, ◌+◌, ◌-◌, ◌/◌, ◌%◌, ◌<◌, ◌≤◌, true, false, eqb, leb, List, [], ◌∷◌, ◌++◌, length, get_or, take, drop, replicate, Some, None, Option, sym, refl, ap, ◌∙◌, arith}
-use Rattle.std.specs.List.{flat_map, AllByRecursion as All}
+use Rattle.std.specs.List.{flat_map, AllByRecursion}
 use Rattle.std.proofs.ByRecursion.{All-take, All-drop}
 use Rattle.std.proofs.lemmas.List.{length-take-le, length-drop, length-append, append_assoc, drop_at}
 use Rattle.std.proofs.lemmas.Bool.{and_parts, eqb-true, cond_both}
@@ -18,12 +18,12 @@ use Rattle.layout_write.proofs.Writes.{length_pairs}
 use Rattle.layout_write.proofs.TagRound.{zeros_again, page_again}
 use Rattle.layout_write.proofs.PartsRound.{parts_again}
 
-byte_at : (xs : List ℕ) → All (λ x. x < 256) xs → (i : ℕ) → get_or xs i 0 < 256
+byte_at : (xs : List ℕ) → AllByRecursion (λ x. x < 256) xs → (i : ℕ) → get_or xs i 0 < 256
 byte_at [] by i = omega arith
 byte_at (x ∷ xs) by zero = by.0
 byte_at (x ∷ xs) by (suc i) = byte_at xs by.1 i
 
-fours_again : (xs : List ℕ) → All (λ x. x < 256) xs → length xs % 4 ≡ 0 → flat_map le32 (words xs) ≡ xs
+fours_again : (xs : List ℕ) → AllByRecursion (λ x. x < 256) xs → length xs % 4 ≡ 0 → flat_map le32 (words xs) ≡ xs
 fours_again [] by h = refl
 fours_again (a ∷ []) by h = absurd (omega arith)
 fours_again (a ∷ b ∷ []) by h = absurd (omega arith)
@@ -54,7 +54,7 @@ data_again p a w e lp he h l z =
     let zs = zeros_again (take (512 - length (a ++ w)) (drop e p)) (ap all_zero (sym r) ∙ z) ∙ ap (λ n. replicate n 0) lr in
     t ∙ ap (λ x. (a ++ w) ++ x) zs
 
-register_data_lem : (p : List ℕ) → All (λ x. x < 256) p → length p ≡ 528 → (e : ℕ) → end_of register_kinds p ≡ Some e → all_zero (drop e (take 512 p)) ≡ true → take 512 p ≡ register_data (flat_map le32 (words (part_at p 0)) ∷ part_at p 1 ∷ [])
+register_data_lem : (p : List ℕ) → AllByRecursion (λ x. x < 256) p → length p ≡ 528 → (e : ℕ) → end_of register_kinds p ≡ Some e → all_zero (drop e (take 512 p)) ≡ true → take 512 p ≡ register_data (flat_map le32 (words (part_at p 0)) ∷ part_at p 1 ∷ [])
 register_data_lem p by lp e end z =
     let d = bounds p e end in
     let r = parts_again register_kinds p 0 8 e (byte_at p by) (omega arith) (omega (arith, d.end, d.few, d.short)) end in
@@ -66,7 +66,7 @@ register_data_lem p by lp e end z =
     data_again p (pairs_from 8 ys) (whole ys) e lp (omega (arith, d.end, d.few, d.short)) whole-page (ap (λ n. n + length (whole ys)) (length_pairs 8 ys) ∙ r.end) z
     ∙ ap (λ h. register_data (h ∷ part_at p 1 ∷ [])) (sym again)
 
-module _ (p : List ℕ) (lp : length p ≡ 528) (by : All (λ x. x < 256) p) (sound : tag_sound p ≡ true) where
+module _ (p : List ℕ) (lp : length p ≡ 528) (by : AllByRecursion (λ x. x < 256) p) (sound : tag_sound p ≡ true) where
   register_again : get_or p 512 0 ≡ 3 → u16_at p 514 ≡ 65535 → (o : Option ℕ) → end_of register_kinds p ≡ o → Rewritten p (register_with_end o (u32_at p 516) p)
   register_again k s None end = tt
   register_again k s (Some e) end =

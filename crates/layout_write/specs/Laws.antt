@@ -1,6 +1,6 @@
 -- Reading and writing undo each other.
 use Rattle.std.specs.Prelude.{◌≡◌, ℕ, ◌<◌, ◌≤◌, true, List, length, take}
-use Rattle.std.specs.List.{AllByRecursion as All}
+use Rattle.std.specs.List.{AllByRecursion}
 use Rattle.limits.specs.Numbers.{rising}
 use Rattle.layout.specs.Page.{Meaning, Erased, Data, Deletion, Register, Bad, meaning}
 use Rattle.layout_write.specs.Written.{data_page, deletion_page, register_page}
@@ -22,4 +22,4 @@ Rewritten p (Bad cause) = Unit {0}
 
 -- A page that is neither erased nor bad is, byte for byte, what is written for its meaning.
 abbrev pub WrittenAgain : Type 0
-WrittenAgain = (p : List ℕ) → length p ≡ 528 → All (λ x. x < 256) p → Rewritten p (meaning p)
+WrittenAgain = (p : List ℕ) → length p ≡ 528 → AllByRecursion (λ x. x < 256) p → Rewritten p (meaning p)

@@ -1,6 +1,6 @@
 -- A line whose numbers fall: what comes before a mark is what was born at or before its number.
 use Rattle.std.proofs.Common.{◌≡◌, ℕ, zero, suc, ◌+◌, ◌-◌, ◌<◌, ◌≤◌, true, false, cond, not, eqb, ltb, leb, List, [], ◌∷◌, reverse, length, get_or, sym, refl, ap, ap₂, inl, inr, arith}
-use Rattle.std.specs.List.{AllByRecursion as All}
+use Rattle.std.specs.List.{AllByRecursion}
 use Rattle.std.specs.List.Sorted.{IsStrictlyIncreasing}
 use Rattle.std.proofs.lemmas.Bool.Decides.{nat_tests}
 use Rattle.std.proofs.lemmas.List.{length-reverse, get_or-reverse}
@@ -24,7 +24,7 @@ pub falls_more : (c d : ℕ) (l : List Item) → c ≤ d → Falls c l → Falls
 falls_more c d [] h f = tt
 falls_more c d (x ∷ l) h f = (let q = f.0 in omega arith, f.1)
 
-pub births_below : (c : ℕ) (l : List Item) → Falls c l → All (λ v. v.birth < c) (entries l)
+pub births_below : (c : ℕ) (l : List Item) → Falls c l → AllByRecursion (λ v. v.birth < c) (entries l)
 unfolding entries
 births_below c [] f = tt
 births_below c (entry v ∷ l) f = (f.0, births_below c l (falls_more v.birth c l (let q = f.0 in omega arith) f.1))
@@ -73,7 +73,7 @@ unfolding needs settle
 needs_same c l f = ap length (keep_ext (needed_on l) (needed (marks l) (entries l)) (entries l) (all_of _ (entries l) (needed_same c l f)))
 
 -- a cut
-pub all_marks : (P : ℕ → Type 0) (c : ℕ) (l : List Item) → Falls c l → ((n : ℕ) → n < c → P n) → All P (marks l)
+pub all_marks : (P : ℕ → Type 0) (c : ℕ) (l : List Item) → Falls c l → ((n : ℕ) → n < c → P n) → AllByRecursion P (marks l)
 all_marks P c l f h = all_in P (marks l) (λ n i. h n (marks_below c l f n (has_in (marks l) n i)))
 
 pub cut_entries : (c n : ℕ) (l : List Item) → Falls c l → has n (marks l) ≡ true → keep (λ v. leb v.birth n) (entries l) ≡ entries (before n l)

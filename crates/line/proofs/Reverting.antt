@@ -1,7 +1,7 @@
 -- A revert as an equation on sets of versions.
 use Rattle.std.proofs.Common.{◌≡◌, ℕ, suc, ◌<◌, ◌≤◌, Bool, true, false, ◌&&◌, eqb, ltb, leb, ◌⊎◌, ◌↔◌, List, [], ◌∷◌, sym, refl, ◌∙◌, subst, inl, inr, arith}
 use mathlib.Core.Option.{some}
-use Rattle.std.specs.List.{AllByRecursion as All}
+use Rattle.std.specs.List.{AllByRecursion}
 use Rattle.std.proofs.lemmas.Bool.Decides.{nat_tests}
 use Rattle.std.proofs.lemmas.Bool.{eqb-true, eq-eqb, ltb-true, lt-ltb, le-ltb, leb-false, and_parts, and_from, and_right, cases_lt}
 use Rattle.readings.specs.Versions.{Version, now, upto, of, keep, choose, first, youngest, needed, settle, Reading, leave}
@@ -26,7 +26,7 @@ present_cut h n r s =
     ∙ first_of_keep (of now s) (λ v. leb v.birth n) r.versions
     ∙ first_ext _ (of (upto n) s) r.versions (all_of _ r.versions (λ v. grind (arith, nat_tests)))
 
-all_elem : {A : Type 0} (P : A → Type 0) (l : List A) → All P l → (x : A) → In x l → P x
+all_elem : {A : Type 0} (P : A → Type 0) (l : List A) → AllByRecursion P l → (x : A) → In x l → P x
 all_elem P [] a x i = absurd i
 all_elem P (y ∷ ys) a x (inl e) = subst P (sym e) a.0
 all_elem P (y ∷ ys) a x (inr i) = all_elem P ys a.1 x i

@@ -1,6 +1,6 @@
 -- The worked cases, by computation.
 use Rattle.std.proofs.Common.{◌≡◌, ℕ, zero, suc, not, eqb, List, [], ◌∷◌, length, replicate, refl, ap, ◌∙◌}
-use Rattle.std.specs.List.{AllByRecursion as All}
+use Rattle.std.specs.List.{AllByRecursion}
 use Rattle.std.proofs.lemmas.Bool.{eq-eqb, cond-false, not_from_true}
 use Rattle.readings.specs.Versions.{bytes, keep, any, first, needed, settle, Reading}
 use Rattle.rules.specs.Calls.{Call, mount, close, count, clean, freeze, open_slip, write, delete, read, look, since, since_in, ask_held, ask_label, release, revert, keep_slip, back_slip, Answer, Outcome, shown, read_answer, check_sector, check_length, check_held, adding, tell, rule}
@@ -81,26 +81,26 @@ after_fitted : ℕ → Reading → List Call → Reading
 after_fitted cap r [] = r
 after_fitted cap r (c ∷ cs) = after_fitted cap (fitted cap c r).left cs
 
-answers_fit : (cap : ℕ) (r : Reading) (cs : List Call) → All Fits cs → answers cap r cs ≡ answers_fitted cap r cs
+answers_fit : (cap : ℕ) (r : Reading) (cs : List Call) → AllByRecursion Fits cs → answers cap r cs ≡ answers_fitted cap r cs
 unfolding answers answers_fitted
 answers_fit cap r [] h = refl
 answers_fit cap r (c ∷ cs) h = ap (λ (o : Outcome). o.answer ∷ answers cap o.left cs) (fitting cap c r h.0) ∙ ap (λ more. (fitted cap c r).answer ∷ more) (answers_fit cap (fitted cap c r).left cs h.1)
 
-after_fit : (cap : ℕ) (r : Reading) (cs : List Call) → All Fits cs → after cap r cs ≡ after_fitted cap r cs
+after_fit : (cap : ℕ) (r : Reading) (cs : List Call) → AllByRecursion Fits cs → after cap r cs ≡ after_fitted cap r cs
 unfolding after after_fitted
 after_fit cap r [] h = refl
 after_fit cap r (c ∷ cs) h = ap (λ (o : Outcome). after cap o.left cs) (fitting cap c r h.0) ∙ after_fit cap (fitted cap c r).left cs h.1
 
-writes_fit : (s n : ℕ) (given : List ℕ) → length given ≡ 512 → All Fits (writes s n given)
+writes_fit : (s n : ℕ) (given : List ℕ) → length given ≡ 512 → AllByRecursion Fits (writes s n given)
 unfolding writes
 writes_fit s zero given h = tt
 writes_fit s (suc n) given h = (h, writes_fit (suc s) n given h)
 
-after_after : (cap : ℕ) (r : Reading) (cs ds : List Call) → All Fits cs → All Fits ds → after cap (after cap r cs) ds ≡ after_fitted cap (after_fitted cap r cs) ds
+after_after : (cap : ℕ) (r : Reading) (cs ds : List Call) → AllByRecursion Fits cs → AllByRecursion Fits ds → after cap (after cap r cs) ds ≡ after_fitted cap (after_fitted cap r cs) ds
 after_after cap r cs ds h k = ap (λ q. after cap q ds) (after_fit cap r cs h) ∙ after_fit cap (after_fitted cap r cs) ds k
 
 -- the answers after some calls
-both_fit : (r : Reading) (cs ds : List Call) → All Fits cs → All Fits ds → answers 22 (after 22 r cs) ds ≡ answers_fitted 22 (after_fitted 22 r cs) ds
+both_fit : (r : Reading) (cs ds : List Call) → AllByRecursion Fits cs → AllByRecursion Fits ds → answers 22 (after 22 r cs) ds ≡ answers_fitted 22 (after_fitted 22 r cs) ds
 both_fit r cs ds h k = ap (λ q. answers 22 q ds) (after_fit 22 r cs h) ∙ answers_fit 22 (after_fitted 22 r cs) ds k
 
 worked : (label a b buffer : List ℕ) → length a ≡ 512 → length b ≡ 512 → length buffer ≡ 512 → Worked label a b buffer

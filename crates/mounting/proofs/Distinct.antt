@@ -1,6 +1,6 @@
 -- No number stands twice: by counts, which a shuffle keeps, and by neighbours in a list that rises.
 use Rattle.std.proofs.Common.{◌≡◌, ℕ, ◌+◌, ◌-◌, ◌<◌, ◌≤◌, Bool, true, false, cond, not, ◌&&◌, ◌||◌, eqb, List, [], ◌∷◌, length, get_or, drop, sum_by, sym, refl, ap, ◌∙◌, arith, length-drop}
-use Rattle.std.specs.List.{AllByRecursion as All}
+use Rattle.std.specs.List.{AllByRecursion}
 use Rattle.std.specs.List.Sorted.{IsNonDecreasing, IsPermutation}
 use Rattle.std.proofs.lemmas.Bool.Decides.{nat_tests}
 use Rattle.std.proofs.lemmas.Bool.{eqb-true, eq-eqb}
@@ -72,7 +72,7 @@ distinct_shuffled xs ys s =
     (λ h. differ ys (λ n. let q = once xs h n in let e = count_shuffled xs ys s n in omega arith))
 
 -- neighbours
-below_all : (n : ℕ) (xs : List ℕ) → All (λ y. n < y) xs → has n xs ≡ false
+below_all : (n : ℕ) (xs : List ℕ) → AllByRecursion (λ y. n < y) xs → has n xs ≡ false
 unfolding any
 below_all n [] h = refl
 below_all n (x ∷ xs) h = let ih = below_all n xs h.1 in let l = h.0 in grind (arith, nat_tests)
@@ -84,7 +84,7 @@ module _ (xs : List ℕ) (r : IsNonDecreasing xs) (i : ℕ) (low : 1 ≤ i) (lt 
       let e : i - 1 + 1 ≡ i = omega arith in
       at_drop_more distinct xs (i - 1) 0 (omega arith) ∙ ap (λ k. not (has (get_or xs (i - 1) 0) (drop k xs)) && distinct (drop k xs)) e
 
-  above : get_or xs (i - 1) 0 < get_or xs i 0 → All (λ y. get_or xs (i - 1) 0 < y) (drop i xs)
+  above : get_or xs (i - 1) 0 < get_or xs i 0 → AllByRecursion (λ y. get_or xs (i - 1) 0 < y) (drop i xs)
   above h = All-from_get_or (λ y. get_or xs (i - 1) 0 < y) (drop i xs) 0
       (λ k l. let q = r i (i + k) 0 (omega arith) (let z = length-drop i xs in omega arith) in let e = get_or-drop i xs k 0 in omega arith)
 

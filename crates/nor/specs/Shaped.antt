@@ -1,7 +1,7 @@
 -- A NOR chip has the shape of a chip.
 use Rattle.std.specs.Prelude.{◌≡◌, ℕ, ◌*◌, List, [], ◌∷◌, map, length}
 use Rattle.std.proofs.Common.{arith}
-use Rattle.std.specs.List.{range_with_len, AllByRecursion as All}
+use Rattle.std.specs.List.{range_with_len, AllByRecursion}
 use Rattle.std.proofs.lemmas.List.FromFn.{length-map-range_with_len}
 use Rattle.chip.specs.Pages.{Shape}
 use Rattle.nor.specs.Image.{nor_blocks, nor_page, nor_pages, page_byte}
@@ -15,11 +15,11 @@ pub length_nor : (ws : List ℕ) → length (nor_pages ws) ≡ nor_blocks ws * 8
 unfolding nor_pages
 length_nor ws = length-map-range_with_len (nor_page ws) 0 (nor_blocks ws * 8)
 
-full_pages : (ws ns : List ℕ) → All (λ p. length p ≡ 528) (map (nor_page ws) ns)
+full_pages : (ws ns : List ℕ) → AllByRecursion (λ p. length p ≡ 528) (map (nor_page ws) ns)
 full_pages ws [] = tt
 full_pages ws (n ∷ ns) = (length_page ws n, full_pages ws ns)
 
-pub full_nor : (ws : List ℕ) → All (λ p. length p ≡ 528) (nor_pages ws)
+pub full_nor : (ws : List ℕ) → AllByRecursion (λ p. length p ≡ 528) (nor_pages ws)
 unfolding nor_pages
 full_nor ws = full_pages ws (range_with_len 0 (nor_blocks ws * 8))
 

@@ -1,7 +1,7 @@
 -- Laws of keep, any and first.
 use Rattle.std.proofs.Common.{◌≡◌, ℕ, Bool, true, false, ◌&&◌, List, [], ◌∷◌, refl, ◌∙◌, inl, inr, arith}
 use mathlib.Core.Option.{some}
-use Rattle.std.specs.List.{AllByRecursion as All}
+use Rattle.std.specs.List.{AllByRecursion}
 use Rattle.std.proofs.lemmas.Bool.Decides.{nat_tests}
 use Rattle.readings.specs.Versions.{put, keep, any, choose, first, has}
 use Rattle.readings.specs.Sorted.{In}
@@ -17,12 +17,12 @@ first_keep p q (x ∷ xs) agree = go (p x) (q x) refl refl (first_keep p q xs)
     go false true e f ih = grind (arith, agree x)
     go false false e f ih = rw e (rw f (ih (λ y h. agree y (rw f h))))
 
-pub keep_ext : {A : Type 0} (p q : A → Bool) (l : List A) → All (λ x. p x ≡ q x) l → keep p l ≡ keep q l
+pub keep_ext : {A : Type 0} (p q : A → Bool) (l : List A) → AllByRecursion (λ x. p x ≡ q x) l → keep p l ≡ keep q l
 unfolding keep
 keep_ext p q [] h = refl
 keep_ext p q (x ∷ xs) h = rw (h.0, keep_ext p q xs h.1)
 
-pub first_ext : {A : Type 0} (p q : A → Bool) (l : List A) → All (λ x. p x ≡ q x) l → first p l ≡ first q l
+pub first_ext : {A : Type 0} (p q : A → Bool) (l : List A) → AllByRecursion (λ x. p x ≡ q x) l → first p l ≡ first q l
 unfolding first
 first_ext p q [] h = refl
 first_ext p q (x ∷ xs) h = rw (h.0, first_ext p q xs h.1)
@@ -38,7 +38,7 @@ unfolding keep first
 first_of_keep p q [] = refl
 first_of_keep p q (x ∷ xs) = let ih = first_of_keep p q xs in grind arith
 
-pub all_of : {A : Type 0} (P : A → Type 0) (l : List A) → ((x : A) → P x) → All P l
+pub all_of : {A : Type 0} (P : A → Type 0) (l : List A) → ((x : A) → P x) → AllByRecursion P l
 all_of P [] h = tt
 all_of P (x ∷ xs) h = (h x, all_of P xs h)
 
@@ -47,12 +47,12 @@ unfolding first
 first_passes q [] x h = grind arith
 first_passes q (y ∷ ys) x h = let ih = first_passes q ys x in grind arith
 
-pub any_ext : {A : Type 0} (p q : A → Bool) (l : List A) → All (λ x. p x ≡ q x) l → any p l ≡ any q l
+pub any_ext : {A : Type 0} (p q : A → Bool) (l : List A) → AllByRecursion (λ x. p x ≡ q x) l → any p l ≡ any q l
 unfolding any
 any_ext p q [] h = refl
 any_ext p q (x ∷ xs) h = rw (h.0, any_ext p q xs h.1)
 
-pub all_in : {A : Type 0} (P : A → Type 0) (l : List A) → ((v : A) → In v l → P v) → All P l
+pub all_in : {A : Type 0} (P : A → Type 0) (l : List A) → ((v : A) → In v l → P v) → AllByRecursion P l
 all_in P [] h = tt
 all_in P (v ∷ vs) h = (h v (inl refl), all_in P vs (λ w i. h w (inr i)))
 
@@ -75,5 +75,5 @@ unfolding keep any
 has_keep h [] n = refl
 has_keep h (x ∷ xs) n = let ih = has_keep h xs n in grind (arith, nat_tests)
 
-pub keep_id : {A : Type 0} (p : A → Bool) (l : List A) → All (λ x. p x ≡ true) l → keep p l ≡ l
+pub keep_id : {A : Type 0} (p : A → Bool) (l : List A) → AllByRecursion (λ x. p x ≡ true) l → keep p l ≡ l
 keep_id p l h = keep_ext p (λ x. true) l h ∙ keep_all l

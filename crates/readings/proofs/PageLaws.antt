@@ -1,6 +1,6 @@
 -- What the pages of a chip read as.
 use Rattle.std.proofs.Common.{◌≡◌, ℕ, suc, ◌<◌, Bool, true, eqb, leb, List, [], ◌∷◌, sym, refl, ap, ◌∙◌, inl, inr, arith}
-use Rattle.std.specs.List.{AllByRecursion as All}
+use Rattle.std.specs.List.{AllByRecursion}
 use Rattle.std.proofs.lemmas.Bool.Decides.{nat_tests}
 use Rattle.std.proofs.lemmas.Bool.{eqb-true, or_cases, and_parts}
 use Rattle.readings.specs.Versions.{Version, keep, any, has, settle}
@@ -46,7 +46,7 @@ needed_suffice label clock held pages Some-of a enough =
     settle_drop held (born Some-of) (sort pages) (λ v i t. born_in Some-of v (enough.1 v (in_sort pages v i) t)))
 
 -- a version younger than all goes in front
-insert_front : (v : Version) (l : List Version) → All (λ w. w.birth < v.birth) l → insert v l ≡ v ∷ l
+insert_front : (v : Version) (l : List Version) → AllByRecursion (λ w. w.birth < v.birth) l → insert v l ≡ v ∷ l
 unfolding insert
 insert_front v [] h = refl
 insert_front v (w ∷ ws) h = let q = h.0 in grind arith
@@ -55,7 +55,7 @@ page_added : PageAdded
 unfolding reading_of sort
 page_added label clock held pages s c born =
     let v : Version = record { sector = s; birth = suc clock; content = c } in
-    let young : All (λ w. w.birth < suc clock) (sort pages) = all_in _ (sort pages) (λ w i. let q = born w (in_sort pages w i) in omega arith) in
+    let young : AllByRecursion (λ w. w.birth < suc clock) (sort pages) = all_in _ (sort pages) (λ w i. let q = born w (in_sort pages w i) in omega arith) in
     ap (λ vs. record { label = label; clock = suc clock; held = held; versions = vs })
     (ap (settle held) (insert_front v (sort pages) young) ∙ sym (settle_add held v (sort pages) young))
 

@@ -2,7 +2,7 @@
 use Rattle.std.proofs.Common.{◌≡◌, ℕ, ◌<◌, ◌≤◌, Bool, true, false, ◌&&◌, ◌||◌, eqb, leb, List, [], ◌∷◌, sym, refl, ap, ◌∙◌, inl, inr, true≢false, arith}
 use mathlib.Core.Bool.{and_comm}
 use mathlib.Core.Option.{some}
-use Rattle.std.specs.List.{AllByRecursion as All}
+use Rattle.std.specs.List.{AllByRecursion}
 use Rattle.std.proofs.lemmas.Bool.Decides.{nat_tests}
 use Rattle.std.proofs.ByRecursion.{All-weaker}
 use Rattle.std.proofs.lemmas.Bool.{eqb-true, eq-eqb, or_cases, or_left, or_right, and_parts}
@@ -106,7 +106,7 @@ add_keeps held v l x h =
     go b c false true p q t = let z : ◌≡◌ {A = Bool} true false = sym (rw q at t) ∙ p in absurd (true≢false z)
     go b c false false p q t = or_right (eqb x.birth v.birth) (needed held l x) (needed_by_lem held l x b c (rw q at t))
 
-pub settle_add : (held : List ℕ) (v : Version) (l : List Version) → All (λ w. w.birth < v.birth) l →
+pub settle_add : (held : List ℕ) (v : Version) (l : List Version) → AllByRecursion (λ w. w.birth < v.birth) l →
     settle held (v ∷ settle held l) ≡ settle held (v ∷ l)
 unfolding keep settle
 settle_add held v l young = ap (settle held) same ∙ settle_drop held (λ x. eqb x.birth v.birth || needed held l x) (v ∷ l) (λ x i. add_keeps held v l x)
@@ -142,7 +142,7 @@ settle_cut held fewer n l holds sub = ap (settle fewer) swap ∙ settle_drop few
         ∙ sym (keep_keep (needed held l) (λ v. leb v.birth n) l)
 
 -- a number held from now on
-pub settle_freeze : (held : List ℕ) (n : ℕ) (l : List Version) → All (λ w. w.birth ≤ n) l → settle (n ∷ held) l ≡ settle held l
+pub settle_freeze : (held : List ℕ) (n : ℕ) (l : List Version) → AllByRecursion (λ w. w.birth ≤ n) l → settle (n ∷ held) l ≡ settle held l
 unfolding settle any
 settle_freeze held n l old = keep_ext (needed (n ∷ held) l) (needed held l) l (all_of _ l (λ v. same_bool (needed (n ∷ held) l v) (needed held l v) (less v) (more v)))
   where

@@ -1,7 +1,7 @@
 -- A session under way, one call on.
 use Rattle.std.proofs.Common.{◌≡◌, ℕ, suc, ◌+◌, ◌<◌, ◌≤◌, Bool, true, false, cond, eqb, List, [], ◌∷◌, ◌++◌, map, reverse, length, get_or, sym, refl, ap, ◌∙◌, subst, inl, inr, arith, length-append}
 use mathlib.Core.List.{reverse-append}
-use Rattle.std.specs.List.{remove, AllByRecursion as All}
+use Rattle.std.specs.List.{remove, AllByRecursion}
 use Rattle.std.proofs.lemmas.List.{map_push, length-map, append_assoc, nil_from_length}
 use Rattle.std.proofs.lemmas.Bool.{cases_eq, true≢false}
 use Rattle.rules.specs.Calls.{Call, mount, close, count, clean, freeze, open_slip, write, delete, read, look, since, since_in, ask_held, ask_label, release, revert, keep_slip, back_slip, Answer}
@@ -169,7 +169,7 @@ both {bs = bs} {cs = cs} e f = ap (λ z. z ++ cs) e ∙ ap (λ z. bs ++ z) f
 pub goes_on : (c : Call) (more : List Call) (es fs hs : List Event) (u v w : View) (ls ns ms : List ℕ) → Goes more es u ls fs v ns → Goes (c ∷ []) fs v ns hs w ms → Goes (c ∷ more) es u ls hs w ms
 goes_on c more es fs hs u v w ls ns ms g h label blocks cs st = h label blocks (more ++ cs) (g label blocks cs st)
 
-pub all_last : {A : Type 0} (P : A → Type 0) (xs : List A) (x : A) → All P (xs ++ x ∷ []) → All P xs × P x
+pub all_last : {A : Type 0} (P : A → Type 0) (xs : List A) (x : A) → AllByRecursion P (xs ++ x ∷ []) → AllByRecursion P xs × P x
 all_last P [] x h = (tt, h.0)
 all_last P (y ∷ xs) x h = let r = all_last P xs x h.1 in ((h.0, r.0), r.1)
 
@@ -181,8 +181,8 @@ module _ (bs rest : List Blank) (b : Blank) (popped : bs ≡ rest ++ b ∷ []) w
   pub opens_popped : opens_in (blank_calls bs) ≡ opens_in (blank_calls rest) + opens_by (blank_call b)
   opens_popped = ap opens_in calls_popped ∙ opens_push (blank_calls rest) (blank_call b)
 
-  pub ready_popped : All Ready bs → All Ready rest × Ready b
-  ready_popped h = all_last Ready rest b (subst (λ (z : List Blank). All Ready z) popped h)
+  pub ready_popped : AllByRecursion Ready bs → AllByRecursion Ready rest × Ready b
+  ready_popped h = all_last Ready rest b (subst (λ (z : List Blank). AllByRecursion Ready z) popped h)
 
   pub split_popped : (all more : List Call) → all ≡ blank_calls bs ++ more → all ≡ blank_calls rest ++ (blank_call b ∷ more)
   split_popped all more e = e ∙ ap (λ z. z ++ more) calls_popped ∙ append_assoc (blank_calls rest) (blank_call b ∷ []) more

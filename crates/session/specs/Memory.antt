@@ -1,6 +1,6 @@
 -- The memory of a session.
 use Rattle.std.specs.Prelude.{◌≡◌, ◌+◌, ◌≤◌, List, [], map, vec_items, vec_len, vec_capacity}
-use Rattle.std.specs.List.{AllByRecursion as All}
+use Rattle.std.specs.List.{AllByRecursion}
 use Rattle.rules.specs.Calls.{Call}
 use Rattle.session.specs.declared.requests.Request.{Request}
 use Rattle.session.specs.declared.blank.Blank.{Blank}
@@ -25,7 +25,7 @@ pub record BlankFor (request : Request) (b : Blank) : Type 0 where
 -- A blank for each request, the last first.
 pub record Blanks (requests : List Request) (bs : List Blank) : Type 0 where
   pub calls : blank_calls bs ≡ calls_of requests
-  pub ready : All Ready bs
+  pub ready : AllByRecursion Ready bs
 
 -- Room for each call, and for a slip and its keep for each open.
 pub record Enough (requests : List Request) (m : Memory) : Type 0 where

@@ -1,6 +1,6 @@
 // The calls of a session, made one after the other.
 ghost use Rattle.std.specs.Prelude.{◌≡◌, ◌+◌, ◌<◌, ◌≤◌, [], ◌∷◌, vec_len, vec_capacity};
-ghost use Rattle.std.specs.List.{AllByRecursion as All};
+ghost use Rattle.std.specs.List.{AllByRecursion};
 ghost use Rattle.store.specs.Views.{seen};
 ghost use Rattle.session.specs.Memory.{Ready, blank_call, blank_calls};
 ghost use Rattle.session.specs.Requests.{events_of, opens_by, opens_in};
@@ -62,7 +62,7 @@ pub(crate) fn make_calls<'a, C: Chip>(
     done: &mut Vec<Made<'a>>,
     mut blanks: Vec<Blank<'a>>,
 )
-    requires ready { All Ready blanks.items }
+    requires ready { AllByRecursion Ready blanks.items }
     requires slip_room { vec_len slips.old + opens_in (blank_calls blanks.items) ≤ vec_capacity slips.old }
     requires room { vec_len done.old + vec_len slips.old + (vec_len blanks + opens_in (blank_calls blanks.items)) ≤ vec_capacity done.old }
     ensures kept { C.Chip.kept store.new.chip ≡ C.Chip.kept store.old.chip }

@@ -2,7 +2,7 @@
 use Rattle.std.specs.Prelude.{◌≡◌, ◌*◌, List, [], ◌∷◌, map, length}
 use Rattle.std.proofs.Common.{arith, length-take}
 use Rattle.std.proofs.lemmas.List.{length-map}
-use Rattle.std.specs.List.{AllByRecursion as All}
+use Rattle.std.specs.List.{AllByRecursion}
 use Rattle.std.proofs.ByRecursion.{All-take}
 use Rattle.chip.specs.Pages.{Shape}
 use Rattle.test_chips.specs.declared.row.Row.{Row}
@@ -12,7 +12,7 @@ use Rattle.test_chips.specs.Rows.{row_bytes, tiny_blocks, tiny_pages}
 pub length_pages : (rows : List Row) → length (tiny_pages rows) ≡ tiny_blocks rows * 2
 length_pages rows = simp (length-take, length-map) (omega arith)
 
-full_rows : (rows : List Row) → All (λ p. length p ≡ 528) (map row_bytes rows)
+full_rows : (rows : List Row) → AllByRecursion (λ p. length p ≡ 528) (map row_bytes rows)
 full_rows [] = tt
 full_rows (row ∷ rows) = (row.whole, full_rows rows)
 

@@ -1,5 +1,4 @@
-use Rattle.std.proofs.Common.{◌≡◌, sym, ap, ◌∙◌, subst}
-use Rattle.bench_lines.specs.Splits.{cut}
+use Rattle.std.proofs.Common.{sym, ap, ◌∙◌, subst}
 use Rattle.bench_lines.proofs.Inputs.{lines_by, lines_cut, whole_line, Shorter, cut_shorter}
 use Rattle.bench_lines.proofs.lines.split_line.Goals as goal
 

@@ -1,5 +1,5 @@
 use Rattle.std.proofs.Common.{◌≡◌, ◌+◌, ◌≤◌, List, ◌++◌, vec_items, vec_len, vec_capacity}
-use Rattle.std.specs.List.{AllByRecursion as All}
+use Rattle.std.specs.List.{AllByRecursion}
 use Rattle.rules.specs.Calls.{Call}
 use Rattle.store.specs.Views.{seen}
 use Rattle.session.specs.Memory.{Ready, blank_calls}
@@ -10,7 +10,7 @@ use Rattle.session.proofs.making.make_calls.Given as goal
 
 abbrev pub invariant-loop-blank : goal.invariant-loop-blank
 invariant-loop-blank g l =
-    All Ready (vec_items l.blanks)
+    AllByRecursion Ready (vec_items l.blanks)
     × (vec_len l.slips + opens_in (blank_calls (vec_items l.blanks)) ≤ vec_capacity l.slips)
     × (vec_len l.done + vec_len l.slips + (vec_len l.blanks + opens_in (blank_calls (vec_items l.blanks))) ≤ vec_capacity l.done)
     × (g.C.Chip.kept l.store.chip ≡ g.C.Chip.kept l.initial.store.chip)
