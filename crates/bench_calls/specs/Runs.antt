@@ -1,9 +1,7 @@
 -- What the program prints.
-use Rattle.std.specs.Prelude.{◌≡◌, ℕ, List, [], ◌∷◌, ◌++◌, map, reverse}
+use Rattle.std.specs.Prelude.{◌≡◌, ℕ, List, map}
 use Rattle.bench_lines.specs.Lines.{commands_in}
 use Rattle.bench_lines.specs.Replies.{rows_of}
-use Rattle.rules.specs.Calls.{Call}
-use Rattle.line.specs.Line.{Event}
 use Rattle.line.specs.Law.{Lawful}
 use Rattle.session.specs.declared.requests.Request.{Request}
 use Rattle.session.specs.declared.requests.Made.{Made}

@@ -162,18 +162,18 @@ of_sector_in : (b : Bound) (w : Version) → Within b w.birth → of b w.sector 
 of_sector_in now w h = and_from (eqb w.sector w.sector) true (eq-eqb w.sector w.sector refl) refl
 of_sector_in (upto n) w h = and_from (eqb w.sector w.sector) (leb w.birth n) (eq-eqb w.sector w.sector refl) (le-leb w.birth n h)
 
-module _ (held : List ℕ) (vs Some-of : List Version) (apart : Apart vs) (enough : Enough held vs Some-of) where
+module _ (held : List ℕ) (vs some_of : List Version) (apart : Apart vs) (enough : Enough held vs some_of) where
   -- The youngest of a sector, within a bound that counts, stands.
   pub youngest_left : (b : Bound) → Counts held b → (w : Version) → In w vs → Within b w.birth →
-      (u : Version) × In u Some-of × (u.sector ≡ w.sector) × Within b u.birth × (w.birth ≤ u.birth)
+      (u : Version) × In u some_of × (u.sector ≡ w.sector) × Within b u.birth × (w.birth ≤ u.birth)
   youngest_left b c w i h =
       let r = first_some (of b w.sector) (sort vs) w (sort_in vs w apart i) (of_sector_in b w h) in
       let y = (words_mean.youngest_means b w.sector vs r.0 apart).0 r.1 in
       let n = youngest_needed held (sort vs) b w.sector r.0 c r.1 in
       (r.0, enough.1 r.0 y.stands n, y.of_sector, y.in_time, y.none_younger w i refl h)
 
-  pub linked_left : (v : Version) (t : ℕ) → Linked held vs v t → Linked held Some-of v t
-  linked_left v t = when_like (eqb t 0) (IsLast vs v) (IsLink held vs v t) (IsLast Some-of v) (IsLink held Some-of v t)
+  pub linked_left : (v : Version) (t : ℕ) → Linked held vs v t → Linked held some_of v t
+  linked_left v t = when_like (eqb t 0) (IsLast vs v) (IsLink held vs v t) (IsLast some_of v) (IsLink held some_of v t)
       (λ last w i e. last w (enough.0 w i) e)
       (λ link. record {
         later = link.later;

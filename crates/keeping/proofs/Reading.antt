@@ -113,10 +113,10 @@ clock_at (x ∷ xs) = go (clock_at xs) (leb (clock_of xs) (birth_of x)) refl
     go (inr k) false e = let q = leb-false (clock_of xs) (birth_of x) e in absurd (omega arith)
 
 -- What is needed among all is what is needed among enough of them.
-pub needs_left : (held : List ℕ) (vs Some-of : List Version) → Apart vs → Enough held vs Some-of → (v : Version) → needed held (sort Some-of) v ≡ needed held (sort vs) v
-needs_left held vs Some-of apart enough v =
-    ap (λ z. needed held z v) (sort_some vs Some-of apart enough.0) ∙ needed_ext held (keep (born Some-of) (sort vs)) (sort vs)
-    (youngest_kept held (born Some-of) (sort vs) (λ w i n. born_in Some-of w (enough.1 w (in_sort vs w i) n))) v
+pub needs_left : (held : List ℕ) (vs some_of : List Version) → Apart vs → Enough held vs some_of → (v : Version) → needed held (sort some_of) v ≡ needed held (sort vs) v
+needs_left held vs some_of apart enough v =
+    ap (λ z. needed held z v) (sort_some vs some_of apart enough.0) ∙ needed_ext held (keep (born some_of) (sort vs)) (sort vs)
+    (youngest_kept held (born some_of) (sort vs) (λ w i n. born_in some_of w (enough.1 w (in_sort vs w i) n))) v
 
 -- Pages that say nothing new.
 pub version_less : (xs ys : List Saying) → Less xs ys → (v : Version) → In v (versions ys) → In v (versions xs)

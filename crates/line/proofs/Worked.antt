@@ -108,9 +108,9 @@ unfolding keep any first needed settle rule fitted answers_fitted after_fitted w
 worked label a b buffer h k l = record {
   fresh_clock = refl;
   fresh_count = answers_fit 22 (fresh label) (count ∷ []) (tt, tt);
-  look-into-frozen-state = answers_fit 22 (fresh label) (write 5 a ∷ freeze ∷ write 5 b ∷ look 3 5 buffer ∷ count ∷ []) (h, (tt, (k, (l, (tt, tt)))));
+  look_into_frozen_state = answers_fit 22 (fresh label) (write 5 a ∷ freeze ∷ write 5 b ∷ look 3 5 buffer ∷ count ∷ []) (h, (tt, (k, (l, (tt, tt)))));
   state_stands_again = both_fit (fresh label) (write 5 a ∷ freeze ∷ write 5 b ∷ []) (revert 3 ∷ read 5 buffer ∷ count ∷ []) (h, (tt, (k, tt))) (tt, (l, (tt, tt)));
-  newer-state-is-gone = both_fit (fresh label) (write 5 a ∷ freeze ∷ write 5 b ∷ revert 3 ∷ []) (write 5 b ∷ freeze ∷ revert 3 ∷ look 7 5 buffer ∷ [])
+  newer_state_is_gone = both_fit (fresh label) (write 5 a ∷ freeze ∷ write 5 b ∷ revert 3 ∷ []) (write 5 b ∷ freeze ∷ revert 3 ∷ look 7 5 buffer ∷ [])
       (h, (tt, (k, (tt, tt)))) (k, (tt, (tt, (l, tt))));
   released_state_is_gone = both_fit (fresh label) (write 5 a ∷ freeze ∷ write 5 b ∷ revert 3 ∷ write 5 b ∷ freeze ∷ revert 3 ∷ []) (release 3 ∷ revert 3 ∷ [])
       (h, (tt, (k, (tt, (k, (tt, (tt, tt))))))) (tt, (tt, tt));
@@ -119,7 +119,7 @@ worked label a b buffer h k l = record {
   full = both_fit (fresh label) (writes 0 22 a) (count ∷ write 0 b ∷ write 22 b ∷ freeze ∷ write 0 a ∷ delete 0 ∷ []) (writes_fit 0 22 a h)
       (tt, (k, (k, (tt, (h, (tt, tt))))));
   deletion = answers_fit 22 (fresh label) (write 4 a ∷ delete 4 ∷ count ∷ read 4 buffer ∷ delete 7 ∷ []) (h, (tt, (tt, (l, (tt, tt)))));
-  trial-taken-back = answers_fit 22 (fresh label) (open_slip ∷ write 1 a ∷ back_slip 2 ∷ read 1 buffer ∷ ask_held (replicate 8 255) ∷ []) (tt, (h, (tt, (l, (tt, tt)))));
+  trial_taken_back = answers_fit 22 (fresh label) (open_slip ∷ write 1 a ∷ back_slip 2 ∷ read 1 buffer ∷ ask_held (replicate 8 255) ∷ []) (tt, (h, (tt, (l, (tt, tt)))));
 }
 
 pub cases : Cases

@@ -47,11 +47,11 @@ module _ (label a b buffer : List ℕ) where
   pub record Worked : Type 0 where
     pub fresh_clock : (fresh label).clock ≡ 1
     pub fresh_count : answers 22 (fresh label) (count ∷ []) ≡ counted 0 ∷ []
-    pub look-into-frozen-state :
+    pub look_into_frozen_state :
         answers 22 (fresh label) (write 5 a ∷ freeze ∷ write 5 b ∷ look 3 5 buffer ∷ count ∷ [])
         ≡ clock 2 ∷ clock 3 ∷ clock 4 ∷ holds a ∷ counted 2 ∷ []
     pub state_stands_again : answers 22 frozen_at_three (revert 3 ∷ read 5 buffer ∷ count ∷ []) ≡ clock 5 ∷ holds a ∷ counted 1 ∷ []
-    pub newer-state-is-gone :
+    pub newer_state_is_gone :
         answers 22 went_back (write 5 b ∷ freeze ∷ revert 3 ∷ look 7 5 buffer ∷ [])
         ≡ clock 6 ∷ clock 7 ∷ clock 8 ∷ refused 9 (look 7 5 buffer) ∷ []
     pub released_state_is_gone : answers 22 went_back_again (release 3 ∷ revert 3 ∷ []) ≡ clock 9 ∷ refused 9 (revert 3) ∷ []
@@ -62,7 +62,7 @@ module _ (label a b buffer : List ℕ) where
     pub deletion :
         answers 22 (fresh label) (write 4 a ∷ delete 4 ∷ count ∷ read 4 buffer ∷ delete 7 ∷ [])
         ≡ clock 2 ∷ clock 3 ∷ counted 1 ∷ empty ∷ clock 3 ∷ []
-    pub trial-taken-back :
+    pub trial_taken_back :
         answers 22 (fresh label) (open_slip ∷ write 1 a ∷ back_slip 2 ∷ read 1 buffer ∷ ask_held (replicate 8 255) ∷ [])
         ≡ clock 2 ∷ clock 3 ∷ clock 4 ∷ empty ∷ granted (0 ∷ []) (replicate 8 0) ∷ []
 

@@ -1,4 +1,4 @@
-// All that the program `inspect` prints.
+// What the program `inspect` prints, with what mount makes of the image.
 ghost use Rattle.std.specs.Prelude.{◌≡◌, IfOk, string_bytes};
 ghost use Rattle.inspection.specs.Arguments.{name_of};
 ghost use Rattle.inspection.specs.Images.{left_over};

@@ -28,22 +28,22 @@ in_born (w ∷ ws) v h = elim (or_cases (eqb v.birth w.birth) (born ws v) h) [
 ]
 
 -- the sorted list of some of the pages is a filter of the sorted list of all
-pub sort_some : (pages Some-of : List Version) → Apart pages → ((v : Version) → In v Some-of → In v pages) → sort Some-of ≡ keep (born Some-of) (sort pages)
-sort_some pages Some-of a sub =
-    desc_ext (sort Some-of) (keep (born Some-of) (sort pages)) (desc_sort Some-of) (desc_keep (born Some-of) (sort pages) (desc_sort pages))
-    (λ v i. let j = in_sort Some-of v i in keep_in (born Some-of) (sort pages) v (sort_in pages v a (sub v j)) (born_in Some-of v j))
+pub sort_some : (pages some_of : List Version) → Apart pages → ((v : Version) → In v some_of → In v pages) → sort some_of ≡ keep (born some_of) (sort pages)
+sort_some pages some_of a sub =
+    desc_ext (sort some_of) (keep (born some_of) (sort pages)) (desc_sort some_of) (desc_keep (born some_of) (sort pages) (desc_sort pages))
+    (λ v i. let j = in_sort some_of v i in keep_in (born some_of) (sort pages) v (sort_in pages v a (sub v j)) (born_in some_of v j))
     (λ v i.
-    let j = in_keep (born Some-of) (sort pages) v i in
-    let k = in_born Some-of v j.1 in
-    sort_in Some-of v (λ x y p q. a x y (sub x p) (sub y q))
+    let j = in_keep (born some_of) (sort pages) v i in
+    let k = in_born some_of v j.1 in
+    sort_in some_of v (λ x y p q. a x y (sub x p) (sub y q))
     (rw (a v k.0 (in_sort pages v j.0) (sub k.0 k.1) (sym k.2)) k.1))
 
 pub needed_suffice : NeededSuffice
 unfolding reading_of
-needed_suffice label clock held pages Some-of a enough =
+needed_suffice label clock held pages some_of a enough =
     ap (λ vs. record { label = label; clock = clock; held = held; versions = vs })
-    (ap (settle held) (sort_some pages Some-of a enough.0) ∙
-    settle_drop held (born Some-of) (sort pages) (λ v i t. born_in Some-of v (enough.1 v (in_sort pages v i) t)))
+    (ap (settle held) (sort_some pages some_of a enough.0) ∙
+    settle_drop held (born some_of) (sort pages) (λ v i t. born_in some_of v (enough.1 v (in_sort pages v i) t)))
 
 -- a version younger than all goes in front
 insert_front : (v : Version) (l : List Version) → AllByRecursion (λ w. w.birth < v.birth) l → insert v l ≡ v ∷ l

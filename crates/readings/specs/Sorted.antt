@@ -34,13 +34,13 @@ Born clock pages = (v : Version) → In v pages → v.birth ≤ clock
 
 -- some of the pages, among them each that is needed
 abbrev pub Enough : List ℕ → List Version → List Version → Type 0
-Enough held pages Some-of =
-    ((v : Version) → In v Some-of → In v pages) × ((v : Version) → In v pages → needed held (sort pages) v ≡ true → In v Some-of)
+Enough held pages some_of =
+    ((v : Version) → In v some_of → In v pages) × ((v : Version) → In v pages → needed held (sort pages) v ≡ true → In v some_of)
 
 -- Only the needed pages count, and neither their order nor how often one stands there.
 abbrev pub NeededSuffice : Type 0
-NeededSuffice = (label : List ℕ) (clock : ℕ) (held : List ℕ) (pages Some-of : List Version) → Apart pages → Enough held pages Some-of →
-    reading_of label clock held Some-of ≡ reading_of label clock held pages
+NeededSuffice = (label : List ℕ) (clock : ℕ) (held : List ℕ) (pages some_of : List Version) → Apart pages → Enough held pages some_of →
+    reading_of label clock held some_of ≡ reading_of label clock held pages
 
 -- A page with a version born after all others is what a write leaves.
 abbrev pub PageAdded : Type 0

@@ -142,7 +142,7 @@ module _ (blocks per : ℕ) (pages : List Page) (ix : Index) (link last_birth : 
     pub cleaned_one : (n : ℕ) → n ≡ stale_of ix limit per victim.0 → Cleaned blocks per pages ix link last_birth limit n pages' ix'
     cleaned_one n e =
         let of = stale_of_lem victim.0 ch.0 in
-        let Some-of = ch.2 in
+        let some_of = ch.2 in
         record {
           sound = done.sound;
           kept = done.kept;
@@ -169,10 +169,10 @@ module _ (blocks per : ℕ) (pages : List Page) (ix : Index) (link last_birth : 
     pub some_erased : Found ix' per None → ⊥
     some_erased none =
         let from = victim.0 * per in
-        let Some-of = tally_some (page_stale ix limit) from per ch.2 in
-        let i = Some-of.0 in
-        let il = Some-of.1 in
-        let goes : page_stays ix limit (from + i) ≡ false = stale_goes (page_free ix (from + i)) (page_stays ix limit (from + i)) Some-of.2 in
+        let some_of = tally_some (page_stale ix limit) from per ch.2 in
+        let i = some_of.0 in
+        let il = some_of.1 in
+        let goes : page_stays ix limit (from + i) ≡ false = stale_goes (page_free ix (from + i)) (page_stays ix limit (from + i)) some_of.2 in
         let li = low_inside in
         let out : Outside from per (low + i) = elim (blocks_apart per victim.0 ix.spare.0 ch.1) [ inl a ↦ inr (omega arith) | inr a ↦ inl (omega arith) ] in
         let page : get_or pages' (low + i) [] ≡ get_or pages (low + i) [] =

@@ -1,4 +1,4 @@
-use Rattle.std.proofs.Common.{map, vec_items, sym, ap, ◌∙◌}
+use Rattle.std.proofs.Common.{map, vec_items, ap, ◌∙◌}
 use Rattle.session.specs.Requests.{call_of}
 use Rattle.bench_calls.proofs.Pushed.{is_none, command_more, none_more, all_lines}
 use Rattle.bench_calls.proofs.asking.requests_of.Goals as goal

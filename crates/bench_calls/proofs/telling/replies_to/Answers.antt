@@ -1,5 +1,4 @@
 use Rattle.std.proofs.Common.{[], ◌∷◌, ◌++◌, vec_items, sym, ap, ◌∙◌}
-use Rattle.bench_calls.specs.Replies.{reply_to}
 use Rattle.bench_calls.proofs.Replied.{reply_more, close_more, all_calls}
 use Rattle.bench_calls.proofs.telling.replies_to.Goals as goal
 use Rattle.bench_calls.proofs.telling.replies_to.Goals.{then-not-is_close+in_ok-push, else-not-is_close}
