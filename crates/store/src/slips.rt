@@ -3,17 +3,10 @@ ghost use Rattle.std.specs.Prelude.{◌≡◌};
 
 use rules::Tick;
 
-// It means its number and nothing else. It can't be dropped, copied or made elsewhere.
+// It means its number and nothing else. It has no `Drop` and no `Clone`, so the compiler refuses code that
+// lets it go or copies it, and only this crate can make one.
 pub struct Slip {
     pub(crate) number: Tick,
-}
-
-impl Drop for Slip {
-    fn drop(self)
-        requires { ⊥ }
-    {
-        let Slip { number: _ } = self;
-    }
 }
 
 impl Slip {
