@@ -3,7 +3,7 @@ use Rattle.std.proofs.Common.{◌≡◌, ℕ, ◌+◌, ◌-◌, ◌*◌, ◌<◌
 use Rattle.std.proofs.lemmas.List.{get_or-set_same, get_or-set_other, length-take-le}
 use Rattle.std.proofs.lemmas.Bool.{cases_lt}
 use Rattle.chip.specs.Pages.{Page, is_erased, pages_erased}
-use Rattle.limits.specs.declared.types.Label.{Label}
+use Rattle.limits.specs.declared.types.Bounded.{Bounded}
 use Rattle.limits.specs.declared.types.Register as limits
 use Rattle.limits.specs.Values.{held_of, label_of}
 use Rattle.layout_write.specs.Written.{register_page}
@@ -55,9 +55,9 @@ some_page blocks per n two least e =
     let f = e ∙ ap (λ b. b * per) d ∙ add-mul 2 (blocks - 2) per in
     omega arith
 
-pub first_says : (r : limits.Register) (label : Label) (image : Page) → r.birth.number ≡ 1 → r.held.count ≡ 0 → r.label ≡ label →
+pub first_says : (r : limits.Register) (label : Bounded ℕ 32) (image : Page) → r.birth.number ≡ 1 → r.held.len ≡ 0 → r.label ≡ label →
     image ≡ register_page r.birth.number (held_of r.held) (label_of r.label) → said image ≡ register (first_register (label_of label))
 first_says r label image b h l e =
-    let short = length-take-le label.size label.bytes (omega (arith, label.room, label.short)) in
-    ap said (e ∙ (λ i. register_page (b i) (take (h i) r.held.numbers) (label_of (l i))))
-    ∙ written_says.register_page_means 1 [] (label_of label) (omega arith) (omega arith) (omega arith) refl (omega (arith, short, label.short))
+    let short = length-take-le label.len label.items (omega (arith, label.room, label.few)) in
+    ap said (e ∙ (λ i. register_page (b i) (take (h i) r.held.items) (label_of (l i))))
+    ∙ written_says.register_page_means 1 [] (label_of label) (omega arith) (omega arith) (omega arith) refl (omega (arith, short, label.few))

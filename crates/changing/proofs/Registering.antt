@@ -116,10 +116,10 @@ valued v = record { birth = v.birth; held = v.held; label = v.label }
 pub register_says : (r : limits.Register) (b : ℕ) (held label : List ℕ) (image : Page) → ◌≡◌ {A = Option RegisterValues} (Some (register_values r)) (register_from b held label) →
     image ≡ register_page r.birth.number (held_of r.held) (label_of r.label) → said image ≡ register (record { birth = b; held = held; label = label })
 register_says r b held label image is e =
-    let few = length-take-le r.held.count r.held.numbers (omega (arith, r.held.room, r.held.few)) in
-    let short = length-take-le r.label.size r.label.bytes (omega (arith, r.label.room, r.label.short)) in
+    let few = length-take-le r.held.len r.held.items (omega (arith, r.held.room, r.held.few)) in
+    let short = length-take-le r.label.len r.label.items (omega (arith, r.label.room, r.label.few)) in
     ap said e
-    ∙ written_says.register_page_means r.birth.number (held_of r.held) (label_of r.label) r.birth.first r.birth.last (omega (arith, few, r.held.few)) r.known (omega (arith, short, r.label.short))
+    ∙ written_says.register_page_means r.birth.number (held_of r.held) (label_of r.label) r.birth.first r.birth.last (omega (arith, few, r.held.few)) r.known (omega (arith, short, r.label.few))
     ∙ ap (λ v. register (valued v)) (made (rising 0 b held) (register_values r) (record { birth = b; held = held; label = label }) is)
 
 pub register_next : (blocks per : ℕ) (pages : List Page) (ix : Index) (can : CanChange blocks per pages ix) (b : ℕ) → b ≡ min ix.clock 4294967293 + 1 → (held : List ℕ) (image : Page) →

@@ -5,7 +5,7 @@ use Rattle.chip.proofs.Ways.{Answer}
 use Rattle.chip.specs.declared.ChipFault.{ChipFault}
 use Rattle.chip.specs.declared.PageNumber.{PageNumber}
 use Rattle.chip.specs.Pages.{Page, is_erased}
-use Rattle.limits.specs.declared.types.Held.{Held}
+use Rattle.limits.specs.declared.types.Bounded.{Bounded}
 use Rattle.limits.specs.Values.{held_of, label_of}
 use Rattle.readings.specs.Versions.{Reading, has}
 use Rattle.readings.specs.Sayings.{Register, register, said, sayings}
@@ -33,7 +33,7 @@ cuttable_revert ix n h = record { is_held = h; none_above = λ m t. leb-true m n
 pub cuttable_back : (ix : Index) (n : ℕ) → has n (held_of ix.held) ≡ true → Cuttable ix n (λ m. ltb m n)
 cuttable_back ix n h = record { is_held = h; none_above = λ m t. let l = ltb-true m n t in omega arith }
 
-module _ (blocks per : ℕ) (pages : List Page) (ix : Index) (n : ℕ) (can : CanChange blocks per pages ix) (held : Held) (k : ℕ) (pages₃ : List Page) (ix₃ : Index)
+module _ (blocks per : ℕ) (pages : List Page) (ix : Index) (n : ℕ) (can : CanChange blocks per pages ix) (held : Bounded ℕ 8) (k : ℕ) (pages₃ : List Page) (ix₃ : Index)
     (lasts : lasting ix₃ ≡ cut_lasting ix held) (x : Page) (says : said x ≡ register (record { birth = suc ix.clock; held = held_of held; label = label_of ix.label }))
     (ix₄ : Index) (noted : memory_of ix₄ ≡ register_noted ix₃ k held) (ix₅ : Index)
     (records₅ : (j : ℕ) → j < 2048 → get_or ix₅.records j unused ≡ unlinked n (get_or ix₄.records j unused)) (map₅ : ix₅.map ≡ ix₄.map) (spare₅ : ix₅.spare ≡ ix₄.spare)
@@ -110,7 +110,7 @@ module _ (blocks per : ℕ) (pages : List Page) (ix : Index) (n : ℕ) (can : Ca
   }
 
 -- The next birth is the same after a cut.
-pub after_cut : (blocks per : ℕ) (pages : List Page) (ix : Index) (n : ℕ) (held : Held) (k : ℕ) (pages' : List Page) (ix' : Index) → WasCut blocks per pages ix n held k pages' ix' → next_birth ix' ≡ suc ix.clock
+pub after_cut : (blocks per : ℕ) (pages : List Page) (ix : Index) (n : ℕ) (held : Bounded ℕ 8) (k : ℕ) (pages' : List Page) (ix' : Index) → WasCut blocks per pages ix n held k pages' ix' → next_birth ix' ≡ suc ix.clock
 after_cut blocks per pages ix n held k pages' ix' was = next_tick blocks per pages ix was.can (next_birth ix') (ap (λ (l : Lasting). min l.clock 4294967293 + 1) was.lasts)
 
 -- A way that is not taken.
@@ -122,7 +122,7 @@ never_back blocks per pages ix n held r pages' ix' h never = record {
 }
 
 -- What a cut leaves, by its answer.
-pub cut_result : (blocks per : ℕ) (pages : List Page) (ix : Index) (n : ℕ) (held : Held) (r : Result PageNumber ChipFault) (pages' : List Page) (ix' : Index) →
+pub cut_result : (blocks per : ℕ) (pages : List Page) (ix : Index) (n : ℕ) (held : Bounded ℕ 8) (r : Result PageNumber ChipFault) (pages' : List Page) (ix' : Index) →
     CanChange blocks per pages ix → has n (held_of ix.held) ≡ true → lasting ix' ≡ cut_lasting ix held →
     ((left : ℕ → Bool) → Cuttable ix n left → held_of held ≡ held_left ix left → CutsTo blocks per pages ix n left r pages' ix') → CutResult blocks per pages ix n held r pages' ix'
 cut_result blocks per pages ix n held (Ok page) pages' ix' can h lasts cuts = record { can = can; was_held = h; lasts = lasts; cut = cuts }

@@ -5,7 +5,7 @@ use Rattle.std.proofs.lemmas.List.{get_or_past, get_or-set_same, get_or-set_othe
 use Rattle.std.proofs.lemmas.Bool.{cases_eq, cond_both, cond-true, cond-false, and_from, and_left, and_right, ne_eqb, eq-eqb, le-leb, le-ltb, lt-ltb}
 use Rattle.chip.specs.declared.PageNumber.{PageNumber}
 use Rattle.chip.specs.Pages.{Page}
-use Rattle.limits.specs.declared.types.Held.{Held}
+use Rattle.limits.specs.declared.types.Bounded.{Bounded}
 use Rattle.limits.specs.Values.{held_of}
 use Rattle.readings.specs.Versions.{upto, choose, first, of, has}
 use Rattle.readings.specs.Sorted.{In, sort}
@@ -70,7 +70,7 @@ module _ (blocks per : ℕ) (pages : List Page) (ix : Index) (o : Opened blocks 
       subst (λ m. MatchBool (ltb m (length pages)) (HasYoungest pages n s m) (NoneUpTo pages n s)) (sym e)
       (entry s (page_in_state ix n s) (shows_in_state blocks per pages ix con n s held))
 
-pub prepared : (blocks per : ℕ) (pages : List Page) (ix : Index) (n : ℕ) (left : ℕ → Bool) (held : Held) (ix' : Index) → Opened blocks per pages ix → Cuttable ix n left → held_of held ≡ held_left ix left →
+pub prepared : (blocks per : ℕ) (pages : List Page) (ix : Index) (n : ℕ) (left : ℕ → Bool) (held : Bounded ℕ 8) (ix' : Index) → Opened blocks per pages ix → Cuttable ix n left → held_of held ≡ held_left ix left →
     Rewound ix n held ix' → Prepared pages ix n left ix'
 prepared blocks per pages ix n left held ix' o can are r = record {
   records = r.records;

@@ -3,7 +3,7 @@ use Rattle.std.specs.Prelude.{◌≡◌, ℕ, ◌+◌, ◌*◌, ◌<◌, ◌≤�
 use Rattle.chip.specs.declared.ChipFault.{ChipFault}
 use Rattle.chip.specs.declared.PageNumber.{PageNumber}
 use Rattle.chip.specs.Pages.{Page, is_erased}
-use Rattle.limits.specs.declared.types.Held.{Held}
+use Rattle.limits.specs.declared.types.Bounded.{Bounded}
 use Rattle.limits.specs.Values.{held_of}
 use Rattle.tables.specs.declared.index.Index.{Index}
 use Rattle.moving.specs.Sound.{Sound, Lasting, lasting}
@@ -35,7 +35,7 @@ entered records n k s m =
     cond (r.sector == s && is_between (get_or records m unused).birth n r) k m
 
 -- The map has what each sector had at n, and other numbers are held.
-pub record Rewound (ix : Index) (n : ℕ) (held : Held) (ix' : Index) : Type 0 where
+pub record Rewound (ix : Index) (n : ℕ) (held : Bounded ℕ 8) (ix' : Index) : Type 0 where
   pub records : ix'.records ≡ ix.records
   pub counted : ix'.pages ≡ ix.pages
   pub clock : ix'.clock ≡ ix.clock
@@ -46,7 +46,7 @@ pub record Rewound (ix : Index) (n : ℕ) (held : Held) (ix' : Index) : Type 0 w
   pub mapped : (s : ℕ) → s < 2048 → slice_index ix'.map s ≡ map_entry (page_in_state ix n s)
 
 -- What lasts while versions go; other numbers are held.
-abbrev pub cut_lasting : Index → Held → Lasting
+abbrev pub cut_lasting : Index → Bounded ℕ 8 → Lasting
 cut_lasting ix held = record { pages = ix.pages; clock = ix.clock; newest = ix.newest; held = held; label = ix.label }
 
 -- The versions born after n are gone, and the page is erased and not of the spare block.
@@ -77,16 +77,16 @@ module _ (blocks per : ℕ) (pages : List Page) (ix : Index) (n : ℕ) (held : L
   GoesBack = CanChange blocks per pages ix → has n (held_of ix.held) ≡ true → WentBack
 
 -- What a cut leaves, for each choice of the held numbers that are left.
-pub record WasCut (blocks per : ℕ) (pages : List Page) (ix : Index) (n : ℕ) (held : Held) (page : ℕ) (pages' : List Page) (ix' : Index) : Type 0 where
+pub record WasCut (blocks per : ℕ) (pages : List Page) (ix : Index) (n : ℕ) (held : Bounded ℕ 8) (page : ℕ) (pages' : List Page) (ix' : Index) : Type 0 where
   pub can : CanChange blocks per pages ix
   pub was_held : has n (held_of ix.held) ≡ true
   pub lasts : lasting ix' ≡ cut_lasting ix held
   pub cut : (left : ℕ → Bool) → Cuttable ix n left → held_of held ≡ held_left ix left → CutDown blocks per pages ix n left page pages' ix'
 
 -- A cut has no fault where a choice fits.
-abbrev pub CutResult : ℕ → ℕ → List Page → Index → ℕ → Held → Result PageNumber ChipFault → List Page → Index → Type 0
+abbrev pub CutResult : ℕ → ℕ → List Page → Index → ℕ → Bounded ℕ 8 → Result PageNumber ChipFault → List Page → Index → Type 0
 CutResult blocks per pages ix n held (Ok page) pages' ix' = WasCut blocks per pages ix n held page.0 pages' ix'
 CutResult blocks per pages ix n held (Err fault) pages' ix' = WentBack blocks per pages ix n (held_of held) (Err fault) pages' ix'
 
-abbrev pub Cuts : ℕ → ℕ → List Page → Index → ℕ → Held → Result PageNumber ChipFault → List Page → Index → Type 0
+abbrev pub Cuts : ℕ → ℕ → List Page → Index → ℕ → Bounded ℕ 8 → Result PageNumber ChipFault → List Page → Index → Type 0
 Cuts blocks per pages ix n held r pages' ix' = CanChange blocks per pages ix → has n (held_of ix.held) ≡ true → CutResult blocks per pages ix n held r pages' ix'

@@ -1,18 +1,20 @@
 -- What the types of this crate hold, as numbers and lists.
 use Rattle.std.specs.Prelude.{ℕ, cond, List, length, take, Some, None, Option, nat_le}
 use Rattle.limits.specs.Numbers.{rising}
-use Rattle.limits.specs.declared.types.Held.{Held}
-use Rattle.limits.specs.declared.types.Label.{Label}
+use Rattle.limits.specs.declared.types.Bounded.{Bounded}
 use Rattle.limits.specs.declared.types.Register.{Register}
 
-abbrev pub held_of : Held → List ℕ
-held_of held = take held.count held.numbers
+abbrev pub items_of : {A : Type 0} {most : ℕ} → Bounded A most → List A
+items_of b = take b.len b.items
 
-abbrev pub label_of : Label → List ℕ
-label_of label = take label.size label.bytes
+abbrev pub held_of : Bounded ℕ 8 → List ℕ
+held_of = items_of
+
+abbrev pub label_of : Bounded ℕ 32 → List ℕ
+label_of = items_of
 
 -- A list, if it has at most `most` elements.
-abbrev pub up_to : ℕ → List ℕ → Option (List ℕ)
+abbrev pub up_to : {A : Type 0} → ℕ → List A → Option (List A)
 up_to most xs = cond (nat_le (length xs) most) (Some xs) None
 
 -- What a register holds: its birth, its held numbers and its label.

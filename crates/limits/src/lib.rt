@@ -3,13 +3,13 @@
 
 pub mod types;
 
-ghost use Rattle.std.specs.Prelude.{◌≡◌};
+ghost use Rattle.std.specs.Prelude.{◌≡◌, [], ◌∷◌, ◌++◌};
 ghost use Rattle.std.specs.Option.{option_map};
 ghost use Rattle.limits.specs.Numbers.{within, rising};
-ghost use Rattle.limits.specs.Values.{held_of, label_of, up_to, register_values, register_from};
+ghost use Rattle.limits.specs.Values.{items_of, held_of, label_of, up_to, register_values, register_from};
 
 use chip::SectorNumber;
-pub use types::{Birth, Held, Label, Register, Sector, Version};
+pub use types::{Birth, Bounded, Held, Label, Register, Sector, Version};
 
 // The last sector that a version can have.
 pub const LAST_SECTOR: u32 = 2047;
@@ -47,57 +47,67 @@ impl Birth {
     }
 }
 
-impl Held {
-    pub fn new(given: &[u32]) -> Option<Held>
-        ensures { option_map held_of result ≡ up_to 8 given.now }
+impl<T: Copy + Default, const MOST: usize> Bounded<T, MOST> {
+    // No item.
+    pub fn empty() -> Self
+        ensures { items_of result ≡ [] }
     {
-        let count = given.len();
-        if count > MOST_HELD {
+        Bounded {
+            items: [T::default(); MOST],
+            len: 0,
+        }
+    }
+
+    // The items of a slice, if they are not more than MOST.
+    pub fn new(given: &[T]) -> Option<Self>
+        ensures { option_map items_of result ≡ up_to MOST given.now }
+    {
+        if given.len() > MOST {
             return None;
         }
-        let mut numbers = [0; MOST_HELD];
-        numbers[0..count].copy_from_slice(given);
-        Some(Held { numbers, count })
+        let mut items = [T::default(); MOST];
+        for (i, item) in given.iter().enumerate() {
+            items[i] = *item;
+        }
+        Some(Bounded {
+            items,
+            len: given.len(),
+        })
     }
 
-    pub fn as_slice(&self) -> &[u32]
-        ensures { result.now ≡ held_of self.now }
+    // The items and one after them, unless there are MOST already.
+    pub fn with(self, item: T) -> Option<Self>
+        ensures { option_map items_of result ≡ up_to MOST (items_of self ++ (item ∷ [])) }
     {
-        &self.numbers[0..self.count]
-    }
-}
-
-impl Label {
-    pub fn new(text: &[u8]) -> Option<Label>
-        ensures { option_map label_of result ≡ up_to 32 text.now }
-    {
-        let size = text.len();
-        if size > LABEL_BYTES {
+        if self.len >= MOST {
             return None;
         }
-        let mut bytes = [0; LABEL_BYTES];
-        bytes[0..size].copy_from_slice(text);
-        Some(Label { bytes, size })
+        let mut items = self.items;
+        items[self.len] = item;
+        Some(Bounded {
+            items,
+            len: self.len + 1,
+        })
     }
 
-    pub fn as_slice(&self) -> &[u8]
-        ensures { result.now ≡ label_of self.now }
+    pub fn as_slice(&self) -> &[T]
+        ensures { result.now ≡ items_of self.now }
     {
-        &self.bytes[0..self.size]
+        let all = &self.items[..];
+        &all[..self.len]
     }
 }
 
 // Whether the numbers rise strictly, from 1 to at most `top`.
-fn is_rising(numbers: &[u32], top: u32) -> bool
+pub fn is_rising(numbers: &[u32], top: u32) -> bool
     ensures { result ≡ rising 0 top numbers.now }
 {
     let mut low = 0;
-    for i in 0..numbers.len() {
-        let n = numbers[i];
-        if n <= low || n > top {
+    for n in numbers {
+        if *n <= low || *n > top {
             return false;
         }
-        low = n;
+        low = *n;
     }
     true
 }

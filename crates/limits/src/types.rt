@@ -1,6 +1,8 @@
 // The types; what each can hold is in its ghost fields.
-ghost use Rattle.std.specs.Prelude.{◌≡◌, ◌≤◌, true, length, take};
+ghost use Rattle.std.specs.Prelude.{◌≡◌, ◌≤◌, true, length, take, ⊤};
 ghost use Rattle.limits.specs.Numbers.{rising};
+
+use std::alloc::AllocError;
 
 // A sector that a page can be a version of.
 #[derive(Clone, Copy, Debug, PartialEq, Eq)]
@@ -24,23 +26,32 @@ pub struct Version {
     pub birth: Birth,
 }
 
-// Up to eight held numbers.
-#[derive(Clone, Copy)]
-pub struct Held {
-    pub numbers: [u32; 8],
-    pub count: usize,
-    ghost room: { length numbers ≡ 8 },
-    ghost few: { count ≤ 8 },
+// Up to MOST items, which lie in the value itself. (A vector of the library that does so, `arrayvec`, is not
+// `Copy`, and its copy can fail; nothing in a store may.)
+pub struct Bounded<T, const MOST: usize> {
+    pub items: [T; MOST],
+    pub len: usize,
+    ghost room: { length items ≡ MOST },
+    ghost few: { len ≤ MOST },
 }
 
-// A label of up to 32 bytes.
-#[derive(Clone, Copy)]
-pub struct Label {
-    pub bytes: [u8; 32],
-    pub size: usize,
-    ghost room: { length bytes ≡ 32 },
-    ghost short: { size ≤ 32 },
+impl<T: Copy, const MOST: usize> Clone for Bounded<T, MOST> {
+    ghost is_clone = { λ s r. r ≡ s };
+
+    ghost is_infallible = { λ _. ⊤ };
+
+    fn clone(&self) -> Result<Self, AllocError> {
+        Ok(*self)
+    }
 }
+
+impl<T: Copy, const MOST: usize> Copy for Bounded<T, MOST> {}
+
+// Held numbers.
+pub type Held = Bounded<u32, 8>;
+
+// A label, by its bytes.
+pub type Label = Bounded<u8, 32>;
 
 // A register: its held numbers rise strictly, from 1 to at most its birth.
 #[derive(Clone, Copy)]
@@ -48,5 +59,5 @@ pub struct Register {
     pub birth: Birth,
     pub held: Held,
     pub label: Label,
-    ghost known: { rising 0 birth.number (take held.count held.numbers) ≡ true },
+    ghost known: { rising 0 birth.number (take held.len held.items) ≡ true },
 }

@@ -1,8 +1,7 @@
 -- What holds between the steps of a store: its chip's pages, and what is in memory.
 use Rattle.std.specs.Prelude.{◌≡◌, ℕ, ◌+◌, ◌*◌, ◌<◌, ◌≤◌, Bool, true, false, List, [], length, get_or, ◌==◌, slice_index, slice_index_or}
 use Rattle.chip.specs.Pages.{Page, is_erased}
-use Rattle.limits.specs.declared.types.Held.{Held}
-use Rattle.limits.specs.declared.types.Label.{Label}
+use Rattle.limits.specs.declared.types.Bounded.{Bounded}
 use Rattle.limits.specs.Values.{held_of}
 use Rattle.readings.specs.Versions.{Version}
 use Rattle.readings.specs.Sayings.{Saying, version, said}
@@ -65,8 +64,8 @@ pub record Lasting : Type 0 where
   pub pages : ℕ
   pub clock : ℕ
   pub newest : ℕ
-  pub held : Held
-  pub label : Label
+  pub held : Bounded ℕ 8
+  pub label : Bounded ℕ 32
 
 abbrev pub lasting : Index → Lasting
 lasting ix = record { pages = ix.pages; clock = ix.clock; newest = ix.newest; held = ix.held; label = ix.label }

@@ -5,7 +5,7 @@ use Rattle.std.proofs.lemmas.List.{get_or-set_same, get_or-set_other, get_or-rep
 use Rattle.std.proofs.lemmas.Bool.{cases_eq, cases_lt, le-ltb, both_ways}
 use Rattle.chip.specs.declared.BlockNumber.{BlockNumber}
 use Rattle.chip.specs.Pages.{Page, is_erased}
-use Rattle.limits.specs.declared.types.Label.{Label}
+use Rattle.limits.specs.declared.types.Bounded.{Bounded}
 use Rattle.limits.specs.Values.{label_of}
 use Rattle.readings.specs.Versions.{Version, settle, keep}
 use Rattle.readings.specs.Sorted.{In, sort, reading_of}
@@ -116,7 +116,7 @@ module _ (blocks per : ℕ) (pages : List Page) (k spare : ℕ) (label : List �
       let a = form.few in let b = form.whole in
       rw (le-ltb blocks 2 form.two, le-ltb 2048 (blocks * per) (omega arith)) refl
 
-  module _ (ix : Index) (empty : BlockNumber) (text : Label) (n : ℕ) (counted : length pages ≡ n) (is-empty : empty.0 ≡ spare) (is-label : label_of text ≡ label) (is : IsFresh n k empty text ix) where
+  module _ (ix : Index) (empty : BlockNumber) (text : Bounded ℕ 32) (n : ℕ) (counted : length pages ≡ n) (is-empty : empty.0 ≡ spare) (is-label : label_of text ≡ label) (is : IsFresh n k empty text ix) where
     record_at : (j : ℕ) → (j ≡ k → ⊥) → get_or ix.records j unused ≡ unused
     record_at j ne = rw is.records (get_or-set_other no_records k j (register_record 1) unused ne ∙ no_record j)
 

@@ -2,7 +2,7 @@
 use Rattle.std.proofs.Common.{◌≡◌, ℕ, ◌+◌, ◌<◌, ◌≤◌, Bool, true, false, ◌&&◌, ◌||◌, eqb, ltb, leb, List, [], ◌∷◌, ◌++◌, length, get_or, take, drop, set, sym, refl, ap, ◌∙◌, arith}
 use Rattle.std.proofs.lemmas.List.{at_drop_more, at_drop_all, append_assoc, append-nil, take_more_set, get_or-take, length-take-le}
 use Rattle.std.proofs.lemmas.Bool.{and_parts, ltb-true, leb-true, lt-ltb, le-leb}
-use Rattle.limits.specs.declared.types.Held.{Held}
+use Rattle.limits.specs.declared.types.Bounded.{Bounded}
 use Rattle.limits.specs.Numbers.{rising}
 use Rattle.limits.specs.Values.{held_of}
 use Rattle.readings.specs.Versions.{put, keep, any, has}
@@ -65,9 +65,9 @@ pub has_end : (n : ℕ) (ns : List ℕ) (i : ℕ) → length ns ≤ i → has n 
 unfolding any
 has_end n ns i h = at_drop_all (has n) ns i h
 
-module _ (held : Held) where
-  pub held_length : length (held_of held) ≡ held.count
-  held_length = length-take-le held.count held.numbers (let a = held.few in let b = held.room in omega arith)
+module _ (held : Bounded ℕ 8) where
+  pub held_length : length (held_of held) ≡ held.len
+  held_length = length-take-le held.len held.items (let a = held.few in let b = held.room in omega arith)
 
-  pub held_at : (i : ℕ) → i < held.count → get_or (held_of held) i 0 ≡ get_or held.numbers i 0
-  held_at i h = get_or-take held.count held.numbers i 0 h
+  pub held_at : (i : ℕ) → i < held.len → get_or (held_of held) i 0 ≡ get_or held.items i 0
+  held_at i h = get_or-take held.len held.items i 0 h

@@ -4,7 +4,7 @@ use Rattle.std.proofs.lemmas.List.{get_or-set_same, get_or-set_other}
 use Rattle.std.proofs.lemmas.Bool.{cases_eq, cases_Bool, lt-ltb, or_cases, and_parts, eqb-true}
 use Rattle.std.proofs.lemmas.Bool.Decides.{when_true, when_false}
 use Rattle.chip.specs.Pages.{Page}
-use Rattle.limits.specs.declared.types.Held.{Held}
+use Rattle.limits.specs.declared.types.Bounded.{Bounded}
 use Rattle.limits.specs.Values.{held_of, label_of}
 use Rattle.readings.specs.Versions.{Version, any, has}
 use Rattle.readings.specs.Sorted.{In}
@@ -40,7 +40,7 @@ holdable_released pages n held e h t =
     let old = (latest (sayings pages)).held in
     inl (and_parts (has h old) (not (eqb h n)) (sym (has_keep (λ m. not (eqb m n)) old h) ∙ ap (has h) (sym e) ∙ t)).0
 
-module _ (blocks per : ℕ) (pages : List Page) (ix ix' : Index) (k : ℕ) (x : Page) (held : Held)
+module _ (blocks per : ℕ) (pages : List Page) (ix ix' : Index) (k : ℕ) (x : Page) (held : Bounded ℕ 8)
     (con : Consistent blocks per pages ix) (free : Free per pages ix k)
     (is : said x ≡ register (next_register pages (held_of held))) (holdable : Holdable pages (held_of held))
     (noted : memory_of ix' ≡ register_noted ix k held) where

@@ -2,7 +2,7 @@
 use Rattle.std.specs.Prelude.{◌≡◌, ℕ, ◌+◌, ◌*◌, ◌<◌, ◌≤◌, min, true, ◌⊎◌, List, [], length, replicate, ◌≢◌, slice_index_or, slice_set}
 use Rattle.chip.specs.declared.BlockNumber.{BlockNumber}
 use Rattle.chip.specs.Pages.{Page, is_erased}
-use Rattle.limits.specs.declared.types.Label.{Label}
+use Rattle.limits.specs.declared.types.Bounded.{Bounded}
 use Rattle.limits.specs.Values.{held_of}
 use Rattle.readings.specs.Sayings.{Register, register, said, sayings}
 use Rattle.readings.specs.Reading.{reading}
@@ -22,7 +22,7 @@ unfoldable pub no_pages : List ℕ
 no_pages = replicate 2048 65535
 
 -- Memory of n pages, all erased but page k, which has the first register.
-pub record IsFresh (n k : ℕ) (empty : BlockNumber) (text : Label) (ix : Index) : Type 0 where
+pub record IsFresh (n k : ℕ) (empty : BlockNumber) (text : Bounded ℕ 32) (ix : Index) : Type 0 where
   pub records : ix.records ≡ slice_set no_records k (register_record 1)
   pub pages : ix.pages ≡ min n 2048
   pub map : ix.map ≡ no_pages

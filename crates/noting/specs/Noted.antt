@@ -1,7 +1,7 @@
 -- What memory has once a page was programmed.
 use Rattle.std.specs.Prelude.{◌≡◌, ℕ, suc, ◌+◌, Bool, true, false, cond, ◌⊎◌, List, [], ◌∷◌, ◌++◌, reverse, get_or, nat_lt, slice_index_or, slice_set}
 use Rattle.chip.specs.Pages.{Page}
-use Rattle.limits.specs.declared.types.Held.{Held}
+use Rattle.limits.specs.declared.types.Bounded.{Bounded}
 use Rattle.readings.specs.Versions.{Content, bytes, deleted, Version, has, add}
 use Rattle.readings.specs.Sorted.{reading_of}
 use Rattle.readings.specs.Sayings.{Register, sayings}
@@ -76,7 +76,7 @@ pub record VersionAdded (blocks per : ℕ) (pages : List Page) (k : ℕ) (x : Pa
 abbrev pub register_record : ℕ → Record
 register_record birth = record { birth = birth; link = 0; sector = 0; kind = kind.Register }
 
-module _ (ix : Index) (k : ℕ) (held : Held) where
+module _ (ix : Index) (k : ℕ) (held : Bounded ℕ 8) where
   abbrev pub register_rest : Rest
   register_rest = record {
     pages = ix.pages;

@@ -3,8 +3,7 @@ use Rattle.std.specs.Prelude.{◌≡◌, ℕ, List}
 use Rattle.readings.specs.Versions.{Content, bytes, deleted}
 use Rattle.readings.specs.Sayings.{Saying, nothing, version, register, bad}
 use Rattle.chip.specs.declared.BlockNumber.{BlockNumber}
-use Rattle.limits.specs.declared.types.Held.{Held}
-use Rattle.limits.specs.declared.types.Label.{Label}
+use Rattle.limits.specs.declared.types.Bounded.{Bounded}
 use Rattle.tables.specs.declared.index.Index.{Index}
 use Rattle.tables.specs.declared.types.Kind.{Kind}
 use Rattle.tables.specs.declared.types.Kind.TheVariants as kind
@@ -30,8 +29,8 @@ pub record Rest : Type 0 where
   pub map : List ℕ
   pub clock : ℕ
   pub newest : ℕ
-  pub held : Held
-  pub label : Label
+  pub held : Bounded ℕ 8
+  pub label : Bounded ℕ 32
   pub spare : BlockNumber
 
 abbrev pub rest_of : Index → Rest

@@ -12,7 +12,7 @@ returns c =
     let v = c.args.register.now in
     let x = c.put_both.ensures in
     let y = c.put_tag.ensures in
-    let n = 4 * v.held.count in
+    let n = 4 * v.held.len in
     let z : n - 0 ≡ n = omega arith in
     let h = ap (λ m. take m c.held_bytes-held.result) z ∙ c.held_bytes-held.ensures in
     let l = c.as_slice.ensures in
@@ -20,8 +20,8 @@ returns c =
     both_written c.put_both.new.out c.put_tag.new.tag c.args.page.now (omega arith) (omega arith)
     ∙ (λ i. x i ++ y i)
     ∙ (λ i. register_data (h i ∷ l i ∷ []) ++ tag_bytes 3 65535 v.birth.number) in
-    let lh = length-take-le v.held.count v.held.numbers (omega arith) in
-    let ll = length-take-le v.label.size v.label.bytes (omega arith) in
+    let lh = length-take-le v.held.len v.held.items (omega arith) in
+    let ll = length-take-le v.label.len v.label.items (omega arith) in
     record {
       writes = w;
       reads = ap meaning w ∙ read_again.register v.birth.number (held_of v.held) (label_of v.label) v.birth.first v.birth.last (omega arith) v.known (omega arith);

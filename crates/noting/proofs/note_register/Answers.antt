@@ -1,6 +1,6 @@
 use Rattle.std.proofs.Common.{◌≡◌, ℕ, true, ltb, List, set, refl}
 use Rattle.std.proofs.lemmas.Bool.{lt-ltb}
-use Rattle.limits.specs.declared.types.Held.{Held}
+use Rattle.limits.specs.declared.types.Bounded.{Bounded}
 use Rattle.tables.specs.declared.index.Index.{Index}
 use Rattle.tables.specs.declared.types.Record.{Record}
 use Rattle.tables.specs.Records.{Rest, rest_of}
@@ -8,7 +8,7 @@ use Rattle.noting.specs.Noted.{Memory, ticked, register_record, register_noted}
 use Rattle.noting.proofs.Register.{register_added}
 use Rattle.noting.proofs.note_register.Goals as goal
 
-noted : (ix : Index) (k : ℕ) (held : Held) (b : ℕ) (r : Record) (records : List Record) (rest : Rest) → ltb k ix.pages ≡ true → b ≡ ticked ix.clock →
+noted : (ix : Index) (k : ℕ) (held : Bounded ℕ 8) (b : ℕ) (r : Record) (records : List Record) (rest : Rest) → ltb k ix.pages ≡ true → b ≡ ticked ix.clock →
     r ≡ register_record b → records ≡ set ix.records k r → rest ≡ rest_of ix →
     ◌≡◌ {A = Memory} (record {
       records = records;

@@ -26,8 +26,8 @@ returns g c = λ o.
     let all = held-size ix.held in
     let told = ap reverse (held_reads _ _ _ ix o) ∙ reverse-reverse held in
     answer_told _ _ _ pages _ _
-    (ap (λ xs. granted (ix.held.count ∷ []) xs)
-    (filled_up_lem 8 ix.held.count held c.copy_from_slice.new.self c.fill.new.self (c.copy_from_slice.ensures.after ∙ c.as_slice.ensures) all
+    (ap (λ xs. granted (ix.held.len ∷ []) xs)
+    (filled_up_lem 8 ix.held.len held c.copy_from_slice.new.self c.fill.new.self (c.copy_from_slice.ensures.after ∙ c.as_slice.ensures) all
     (c.fill.ensures.after (λ y e. e) ∙ ap (λ n. replicate n zero) (eqb-true _ 8 c.in_ok-check_length.ensures)))
     ∙ ap (λ n. granted (n ∷ []) (filled 8 held)) (sym (count_reads _ _ _ ix o ∙ all)) ∙ ap (λ xs. granted (length (reading (sayings pages)).held ∷ []) (filled 8 xs)) (sym told))
     (held_granted _ _ _ c.in_ok-check_length.ensures)

@@ -21,8 +21,8 @@ returns g c = λ o.
     let text = label_of ix.label in
     let all = label_size ix.label in
     answer_told _ _ _ pages _ _
-    (ap (λ xs. granted (ix.label.size ∷ []) xs)
-    (filled_up_lem 32 ix.label.size text c.copy_from_slice.new.self c.fill.new.self (c.copy_from_slice.ensures.after ∙ c.as_slice.ensures) all
+    (ap (λ xs. granted (ix.label.len ∷ []) xs)
+    (filled_up_lem 32 ix.label.len text c.copy_from_slice.new.self c.fill.new.self (c.copy_from_slice.ensures.after ∙ c.as_slice.ensures) all
     (c.fill.ensures.after (λ y e. e) ∙ ap (λ n. replicate n zero) (eqb-true _ 32 c.in_ok-check_length.ensures)))
     ∙ ap (λ n. granted (n ∷ []) (filled 32 text)) (sym all) ∙ ap (λ xs. granted (length xs ∷ []) (filled 32 xs)) (sym (label_reads _ _ _ ix o)))
     (label_granted _ _ _ c.in_ok-check_length.ensures)

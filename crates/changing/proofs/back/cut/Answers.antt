@@ -1,6 +1,6 @@
 use Rattle.std.proofs.Common.{◌≡◌, ℕ, ◌∙◌, subst}
 use Rattle.tables.specs.declared.index.Index.{Index}
-use Rattle.limits.specs.declared.types.Held.{Held}
+use Rattle.limits.specs.declared.types.Bounded.{Bounded}
 use Rattle.room.specs.Choose.{MakesRoom}
 use Rattle.moving.specs.Sound.{lasting}
 use Rattle.moving.proofs.Copies.{not_both}
@@ -10,7 +10,7 @@ use Rattle.changing.proofs.Rewinding.{prepared}
 use Rattle.changing.proofs.Returning.{cut_result}
 use Rattle.changing.proofs.back.cut.Goals as goal
 
-lasts : (ix : Index) (n : ℕ) (held : Held) (ix' : Index) → Rewound ix n held ix' → lasting ix' ≡ cut_lasting ix held
+lasts : (ix : Index) (n : ℕ) (held : Bounded ℕ 8) (ix' : Index) → Rewound ix n held ix' → lasting ix' ≡ cut_lasting ix held
 lasts ix n held ix' r = λ i. record { pages = r.counted i; clock = r.clock i; newest = r.newest i; held = r.holds i; label = r.label i }
 
 pub returns-in_err-purge : goal.returns-in_err-purge

@@ -20,13 +20,13 @@ loop-i-preserved c =
     let at = held_at held i (omega arith) in
     elim c.if-candidate-bound.branch [
       | then-candidate-bound w ↦
-          let lt = lt-ltb (get_or held.numbers i 0) c.args.bound w.if-candidate-bound.true in (
-            ap length w.numbers-is ∙ length-set out count (get_or held.numbers i 0) ∙ inv.0,
+          let lt = lt-ltb (get_or held.items i 0) c.args.bound w.if-candidate-bound.true in (
+            ap length w.numbers-is ∙ length-set out count (get_or held.items i 0) ∙ inv.0,
             omega (arith, w.count-is, inv.1),
             rw (w.numbers-is, w.count-is) (rw at at (keep_yes below ns out count i inside (rw at lt) room inv.2)),
           )
       | else-candidate-bound w ↦
-          let ge = le-ltb (get_or held.numbers i 0) c.args.bound w.if-candidate-bound.false in
+          let ge = le-ltb (get_or held.items i 0) c.args.bound w.if-candidate-bound.false in
           (ap length w.numbers-is ∙ inv.0, omega (arith, w.count-is, inv.1), rw (w.numbers-is, w.count-is) (keep_no below ns out count i inside (rw at ge) inv.2))
     ]
 

@@ -12,6 +12,6 @@ returns c =
     let pushed : length (held_of held ++ (n ∷ [])) ≤ 8 = omega (arith, length_push (held_of held) n, held_length held) in
     let room = held.room in
     record {
-      held = ap Some (take_more_set held.numbers held.count n (omega arith)) ∙ rw (le-leb (length (held_of held ++ (n ∷ []))) 8 pushed) refl;
+      held = ap Some (take_more_set held.items held.len n (omega arith)) ∙ rw (le-leb (length (held_of held ++ (n ∷ []))) 8 pushed) refl;
       rising = λ top r h. rising_push 0 top n (held_of held) r (omega arith) h;
     }

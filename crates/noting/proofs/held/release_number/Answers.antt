@@ -21,13 +21,13 @@ loop-i-preserved c =
     let at = held_at held i (omega arith) in
     elim c.if-n-number.branch [
       | then-n-number w ↦
-          let ne = ap not (ne_eqb (get_or held.numbers i 0) n w.if-n-number.true) in (
-            ap length w.numbers-is ∙ length-set out count (get_or held.numbers i 0) ∙ inv.0,
+          let ne = ap not (ne_eqb (get_or held.items i 0) n w.if-n-number.true) in (
+            ap length w.numbers-is ∙ length-set out count (get_or held.items i 0) ∙ inv.0,
             omega (arith, w.count-is, inv.1),
             rw (w.numbers-is, w.count-is) (rw at at (keep_yes other ns out count i inside (rw at ne) room inv.2)),
           )
       | else-n-number w ↦
-          let eq = ap not (eq-eqb (get_or held.numbers i 0) n w.if-n-number.false) in
+          let eq = ap not (eq-eqb (get_or held.items i 0) n w.if-n-number.false) in
           (ap length w.numbers-is ∙ inv.0, omega (arith, w.count-is, inv.1), rw (w.numbers-is, w.count-is) (keep_no other ns out count i inside (rw at eq) inv.2))
     ]
 
