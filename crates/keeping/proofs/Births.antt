@@ -11,7 +11,7 @@ use Rattle.keeping.specs.Stored.{Lone}
 use Rattle.keeping.proofs.Lists.{says_at, at_says}
 
 pub births_has : (xs : List Saying) (x : Saying) → In x xs → is_nothing x ≡ false → has (birth_of x) (births xs) ≡ true
-unfolding births any
+unfolding births
 births_has [] x h n = absurd h
 births_has (y ∷ ys) x h n = go (is_nothing y) refl h (λ i. births_has ys x i n)
   where
@@ -22,7 +22,7 @@ births_has (y ∷ ys) x h n = go (is_nothing y) refl h (λ i. births_has ys x i 
     go false e (inr i) ih = or_right (eqb (birth_of x) (birth_of y)) (has (birth_of x) (births ys)) (ih i)
 
 pub has_births : (xs : List Saying) (b : ℕ) → has b (births xs) ≡ true → (x : Saying) × In x xs × (is_nothing x ≡ false) × (birth_of x ≡ b)
-unfolding births any
+unfolding births
 has_births [] b h = let z : ◌≡◌ {A = ℕ} 0 1 = cc in absurd (omega arith)
 has_births (y ∷ ys) b h = go (is_nothing y) refl h (has_births ys b)
   where

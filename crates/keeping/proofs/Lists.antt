@@ -31,13 +31,11 @@ at_says pages x k l e =
 
 -- A test of some element.
 pub any_in : {A : Type 0} (p : A → Bool) (xs : List A) (x : A) → In x xs → p x ≡ true → any p xs ≡ true
-unfolding any
 any_in p [] x h t = absurd h
 any_in p (y ∷ ys) x (inl e) t = or_left (p y) (any p ys) (ap p (sym e) ∙ t)
 any_in p (y ∷ ys) x (inr h) t = or_right (p y) (any p ys) (any_in p ys x h t)
 
 pub in_any : {A : Type 0} (p : A → Bool) (xs : List A) → any p xs ≡ true → (x : A) × In x xs × (p x ≡ true)
-unfolding any
 in_any p [] h = let z : ◌≡◌ {A = ℕ} 0 1 = cc in absurd (omega arith)
 in_any p (y ∷ ys) h = elim (or_cases (p y) (any p ys) h) [
   | inl t ↦ (y, inl refl, t)
@@ -55,7 +53,6 @@ keep_short p (x ∷ xs) = go (p x) (keep_short p xs)
 
 -- Reversed lists.
 any_onto : {A : Type 0} (p : A → Bool) (xs ys : List A) → any p (reverse_aux xs ys) ≡ (any p xs || any p ys)
-unfolding any
 any_onto p [] ys = refl
 any_onto p (x ∷ xs) ys = any_onto p xs (x ∷ ys) ∙ swap (p x) (any p xs) (any p ys)
   where
@@ -63,7 +60,6 @@ any_onto p (x ∷ xs) ys = any_onto p xs (x ∷ ys) ∙ swap (p x) (any p xs) (a
     swap a b c = grind arith
 
 pub any_reverse : {A : Type 0} (p : A → Bool) (xs : List A) → any p (reverse xs) ≡ any p xs
-unfolding any
 any_reverse p xs = any_onto p xs [] ∙ or_false (any p xs)
   where
     or_false : (a : Bool) → (a || false) ≡ a

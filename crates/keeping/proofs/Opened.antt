@@ -51,7 +51,6 @@ place_at (p ∷ ps) lone (suc k) v h e =
 
 -- Held numbers are known.
 pub rising_below : (low top : ℕ) (ns : List ℕ) (h : ℕ) → rising low top ns ≡ true → has h ns ≡ true → h ≤ top
-unfolding any
 rising_below low top [] h r i = let z : ◌≡◌ {A = ℕ} 0 1 = cc in absurd (omega arith)
 rising_below low top (n ∷ ns) h r i =
     let a = and_parts (ltb low n) (leb n top && rising n top ns) r in

@@ -7,26 +7,6 @@ use Rattle.layout.specs.Parts.{unit_of, most_of, fits, parts_end}
 use Rattle.layout.specs.declared.parts.PartKind.{PartKind}
 use Rattle.layout.specs.declared.parts.PartKind.TheVariants as kind
 
--- one turn of `parts_end`: the pair gives offset o and length n, and f tells whether the part can be as long
-module _ (ks : List PartKind) (p : List ℕ) (i at : ℕ) (o n : ℕ) (f : Bool) (lt : i < length ks) (eo : o ≡ u16_at p (4 * i)) (en : n ≡ u16_at p (4 * i + 2)) (ef : f ≡ fits (get_or ks i kind.Held) n) where
-  pair_here : parts_end (drop i ks) p (4 * i) at ≡ cond (eqb o at && f) (parts_end (drop (i + 1) ks) p (4 * i + 4) (at + n)) None
-  pair_here =
-      at_drop_more (λ l. parts_end l p (4 * i) at) ks i kind.Held lt
-      ∙ (λ j. cond (eqb (sym eo j) at && fits (get_or ks i kind.Held) (sym en j)) (parts_end (drop (i + 1) ks) p (4 * i + 4) (at + sym en j)) None)
-      ∙ (λ j. cond (eqb o at && sym ef j) (parts_end (drop (i + 1) ks) p (4 * i + 4) (at + n)) None)
-
-  pub pair_moved : (o ≡ at → ⊥) → parts_end (drop i ks) p (4 * i) at ≡ None
-  pair_moved differ = let e = ne_eqb o at differ in pair_here ∙ rw e refl
-
-  pub pair_long : f ≡ false → parts_end (drop i ks) p (4 * i) at ≡ None
-  pair_long short = pair_here ∙ cond-false (eqb o at && f) _ _ (and_right (eqb o at) f short)
-
-  pub pair_good : o ≡ at → f ≡ true → parts_end (drop (i + 1) ks) p (4 * (i + 1)) (at + n) ≡ parts_end (drop i ks) p (4 * i) at
-  pair_good same can =
-      let e = eq-eqb o at same in
-      let m : 4 * (i + 1) ≡ 4 * i + 4 = omega arith in
-      ap (λ k. parts_end (drop (i + 1) ks) p k (at + n)) m ∙ sym (pair_here ∙ rw (e, can) refl)
-
 -- what the first pair gives, where the parts end at e
 pub record First (k : PartKind) (ks : List PartKind) (p : List ℕ) (i at e : ℕ) : Type 0 where
   pub starts : u16_at p i ≡ at

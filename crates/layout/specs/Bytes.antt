@@ -1,10 +1,10 @@
 -- Numbers in a row of bytes, the low byte first.
-use Rattle.std.specs.Prelude.{ℕ, ◌+◌, ◌*◌, Bool, true, ◌&&◌, List, [], ◌∷◌, ◌==◌, slice_index}
+use Rattle.std.specs.Prelude.{ℕ, ◌+◌, ◌*◌, Bool, List, [], ◌∷◌, ◌==◌, slice_index}
+use Rattle.std.specs.List.{list_all}
 
 -- Whether each byte is 00.
 abbrev pub all_zero : List ℕ → Bool
-all_zero [] = true
-all_zero (x ∷ xs) = x == 0 && all_zero xs
+all_zero = list_all (λ x. x == 0)
 
 -- The number in the two bytes from i on, and in the four.
 abbrev pub u16_at : List ℕ → ℕ → ℕ

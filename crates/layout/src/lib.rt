@@ -6,7 +6,7 @@ pub mod parts;
 
 ghost use Rattle.std.specs.Prelude.{◌≡◌, ◌+◌, ◌*◌, ◌≤◌, true, length, IfOk, if◌then◌else◌, Some, None};
 ghost use Rattle.std.specs.Option.{option_map};
-ghost use Rattle.limits.specs.Numbers.{rising};
+ghost use Rattle.limits.specs.Numbers.{within, rising};
 ghost use Rattle.limits.specs.Values.{held_of, label_of};
 ghost use Rattle.layout.specs.Bytes.{all_zero, u16_at, u32_at, words};
 ghost use Rattle.layout.specs.Parts.{unit_of, most_of, fits, end_of, part_at, bytes_of};
@@ -15,7 +15,7 @@ ghost use Rattle.layout.specs.Page.{go_together, tag_read, tag_of, summary, mean
 ghost use Rattle.layout.specs.declared.pages.Page.TheVariants as page;
 
 use chip::{PAGE_BYTES, SectorNumber, is_erased};
-use limits::{Birth, Held, LABEL_BYTES, Label, MOST_HELD, Register, Sector, Version};
+use limits::{Birth, Held, LABEL_BYTES, Label, MOST_HELD, Register, Sector, Version, is_rising};
 pub use pages::{Cause, Page, RegisterFault, Tag};
 pub use parts::{PartKind, RegisterPart, RegisterParts};
 
@@ -66,27 +66,7 @@ fn u32_at(bytes: &[u8], i: usize) -> u32
 fn all_zero(bytes: &[u8]) -> bool
     ensures { result ≡ all_zero bytes.now }
 {
-    for i in 0..bytes.len() {
-        if bytes[i] != 0 {
-            return false;
-        }
-    }
-    true
-}
-
-// Whether the numbers of four bytes each rise strictly, from 1 to at most `birth`.
-fn is_rising(bytes: &[u8], birth: Birth) -> bool
-    ensures { result ≡ rising 0 birth.number (words bytes.now) }
-{
-    let mut low = 0;
-    for i in 0..bytes.len() / NUMBER_BYTES {
-        let n = u32_at(bytes, NUMBER_BYTES * i);
-        if n <= low || n > birth.number {
-            return false;
-        }
-        low = n;
-    }
-    true
+    bytes.iter().all(|byte| *byte == 0)
 }
 
 impl PartKind {
@@ -125,10 +105,10 @@ fn parts_end(page: &[u8; PAGE_BYTES], kinds: &[PartKind]) -> Option<usize>
     ensures { result ≡ end_of kinds.now page.now }
 {
     let mut at = PAIR_BYTES * kinds.len();
-    for i in 0..kinds.len() {
+    for (i, kind) in kinds.iter().enumerate() {
         let offset = u16_at(page, PAIR_BYTES * i) as usize;
         let length = u16_at(page, PAIR_BYTES * i + 2) as usize;
-        let can_be = kinds[i].fits(length);
+        let can_be = kind.fits(length);
         if offset != at || !can_be {
             return None;
         }
@@ -151,6 +131,29 @@ fn part<'a>(page: &'a [u8; PAGE_BYTES], n: usize) -> (usize, &'a [u8])
 // The parts of a register, in the order of their pairs.
 const REGISTER_KINDS: [PartKind; 2] = [PartKind::Held, PartKind::Label];
 
+// Copies the held numbers.
+fn copy_held(bytes: &[u8]) -> Held
+    requires { length bytes.now ≤ 32 }
+    ensures { held_of result ≡ words bytes.now }
+{
+    let mut items = [0; MOST_HELD];
+    for (i, word) in bytes.chunks_exact(NUMBER_BYTES).enumerate() {
+        items[i] = u32_at(word, 0);
+    }
+    Held {
+        items,
+        len: bytes.len() / NUMBER_BYTES,
+    }
+}
+
+// Whether the held numbers rise strictly, from 1 to at most `birth`.
+fn do_rise(held: &[u8], birth: Birth) -> bool
+    requires { length held.now ≤ 32 }
+    ensures { result ≡ rising 0 birth.number (words held.now) }
+{
+    is_rising(copy_held(held).as_slice(), birth.number)
+}
+
 // Reads the data of a register page; the parts are lent from the page.
 pub fn read_register<'a>(
     page: &'a [u8; PAGE_BYTES],
@@ -164,7 +167,7 @@ pub fn read_register<'a>(
     };
     let (held_offset, held) = part(page, 0);
     let (label_offset, label) = part(page, 1);
-    if !is_rising(held, birth) {
+    if !do_rise(held, birth) {
         return Err(RegisterFault::Held);
     }
     if !all_zero(&page[end..DATA_BYTES]) {
@@ -182,23 +185,27 @@ pub fn read_register<'a>(
     })
 }
 
+fn sector_of(number: u16) -> Option<Sector>
+    ensures { option_map (λ s. s.number) result ≡ within 0 2047 number }
+{
+    Sector::new(SectorNumber(u32::from(number)))
+}
+
 // The tag of a programmed page, if kind, sector and birth go together.
 fn tag_with(kind: u8, sector: u16, birth: u32) -> Option<Tag>
     ensures { option_map tag_of result ≡ (if go_together kind sector birth then Some (kind, sector, birth) else None) }
 {
     let birth = Birth::new(birth)?;
-    if kind == REGISTER_KIND {
-        return if sector == NO_SECTOR {
-            Some(Tag::Register(birth))
-        } else {
-            None
-        };
-    }
-    let sector = Sector::new(SectorNumber(sector as u32))?;
-    let version = Version { sector, birth };
     match kind {
-        DATA_KIND => Some(Tag::Data(version)),
-        DELETION_KIND => Some(Tag::Deletion(version)),
+        DATA_KIND => Some(Tag::Data(Version {
+            sector: sector_of(sector)?,
+            birth,
+        })),
+        DELETION_KIND => Some(Tag::Deletion(Version {
+            sector: sector_of(sector)?,
+            birth,
+        })),
+        REGISTER_KIND => (sector == NO_SECTOR).then_some(Tag::Register(birth)),
         _ => None,
     }
 }
@@ -254,19 +261,6 @@ impl<'a> RegisterPart<'a> {
             RegisterPart::Label { offset: _, bytes } => bytes,
         }
     }
-}
-
-// Copies the held numbers.
-fn copy_held(bytes: &[u8]) -> Held
-    requires { length bytes.now ≤ 32 }
-    ensures { held_of result ≡ words bytes.now }
-{
-    let mut numbers = [0; MOST_HELD];
-    let count = bytes.len() / NUMBER_BYTES;
-    for i in 0..count {
-        numbers[i] = u32_at(bytes, NUMBER_BYTES * i);
-    }
-    Held { numbers, count }
 }
 
 // Copies the label.

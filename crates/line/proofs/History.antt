@@ -76,7 +76,6 @@ module _ (g e p : ℕ → Bool) where
   }
 
   pub told_on : {r r' : Reading} {f : Effect} {a : Answer} → StepBy r f a r' → AllAsTold r → (n : ℕ) → Next f a r' n
-  unfolding any
   told_on (refuses z) w n = rw z (w n)
   told_on (asks z) w n = rw z (w n)
   told_on (cleaned z) w n = rw z (w n)

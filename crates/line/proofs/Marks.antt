@@ -25,7 +25,7 @@ before_unmark n m (mark k ∷ l) h = let ih = before_unmark n m l h in let u = u
 
 before_before : (c n m : ℕ) (l : List Item) → Falls c l → has m (marks l) ≡ true → has n (marks (before m l)) ≡ true →
     (has n (marks l) ≡ true) × (before n (before m l) ≡ before n l)
-unfolding entries before marks any
+unfolding entries before marks
 before_before c n m [] f h k = (k, refl)
 before_before c n m (entry v ∷ l) f h k = before_before v.birth n m l f.1 h k
 before_before c n m (mark j ∷ l) f h k = elim (or_cases (eqb m j) (has m (marks l)) h) [
@@ -42,7 +42,7 @@ before_before c n m (mark j ∷ l) f h k = elim (or_cases (eqb m j) (has m (mark
 
 module _ (n : ℕ) (vs : List Version) (l : List Item) (same : has n (marks l) ≡ true → entries (before n l) ≡ vs) where
   kept_freeze : (c : ℕ) → n ≤ c → has n (marks (mark (suc c) ∷ l)) ≡ true → entries (before n (mark (suc c) ∷ l)) ≡ vs
-  unfolding before marks any
+  unfolding before marks
   kept_freeze c h k = rw (ne_eqb (suc c) n (λ z. omega arith)) (same (rw (ne_eqb n (suc c) (λ z. omega arith)) at k))
 
   kept_release : (m : ℕ) → has n (marks (unmark m l)) ≡ true → entries (before n (unmark m l)) ≡ vs
@@ -54,7 +54,7 @@ module _ (n : ℕ) (vs : List Version) (l : List Item) (same : has n (marks l) �
   kept_back c m f i k = let b = before_before c n m l f i k in ap entries b.1 ∙ same b.0
 
   kept_revert : (c m : ℕ) → Falls c l → has m (marks l) ≡ true → has n (marks (mark m ∷ before m l)) ≡ true → entries (before n (mark m ∷ before m l)) ≡ vs
-  unfolding before marks any
+  unfolding before marks
   kept_revert c m f i k = go (eqb m n) refl
     where
       go : (b : Bool) → eqb m n ≡ b → entries (cond b (before m l) (before n (before m l))) ≡ vs

@@ -31,7 +31,7 @@ births_below c (entry v ∷ l) f = (f.0, births_below c l (falls_more v.birth c 
 births_below c (mark n ∷ l) f = births_below c l (falls_more n c l (let q = f.0 in omega arith) f.1)
 
 pub marks_below : (c : ℕ) (l : List Item) → Falls c l → (n : ℕ) → has n (marks l) ≡ true → n < c
-unfolding marks any
+unfolding marks
 marks_below c [] f n h = grind arith
 marks_below c (entry v ∷ l) f n h = marks_below c l (falls_more v.birth c l (let q = f.0 in omega arith) f.1) n h
 marks_below c (mark m ∷ l) f n h = elim (or_cases (eqb n m) (has n (marks l)) h) [
@@ -41,7 +41,7 @@ marks_below c (mark m ∷ l) f n h = elim (or_cases (eqb n m) (has n (marks l)) 
 
 -- what a mark on the line tells of the line's first item
 pub before_first : (c n : ℕ) (l : List Item) → Falls c l → has n (marks l) ≡ true → (s : ℕ) → youngest (upto n) s (entries l) ≡ last_of s (before n l)
-unfolding entries marks before any first
+unfolding entries marks before first
 before_first c n [] f h s = grind arith
 before_first c n (entry v ∷ l) f h s =
     let ih = before_first v.birth n l f.1 h s in
@@ -55,7 +55,6 @@ before_first c n (mark m ∷ l) f h s = elim (or_cases (eqb n m) (has n (marks l
 ]
 
 pub has_in : (l : List ℕ) (n : ℕ) → In n l → has n l ≡ true
-unfolding any
 has_in [] n h = absurd h
 has_in (m ∷ ms) n (inl k) = or_left (eqb n m) (has n ms) (eq-eqb n m k)
 has_in (m ∷ ms) n (inr k) = or_right (eqb n m) (has n ms) (has_in ms n k)
@@ -77,7 +76,7 @@ pub all_marks : (P : ℕ → Type 0) (c : ℕ) (l : List Item) → Falls c l →
 all_marks P c l f h = all_in P (marks l) (λ n i. h n (marks_below c l f n (has_in (marks l) n i)))
 
 pub cut_entries : (c n : ℕ) (l : List Item) → Falls c l → has n (marks l) ≡ true → keep (λ v. leb v.birth n) (entries l) ≡ entries (before n l)
-unfolding entries marks before any keep
+unfolding entries marks before keep
 cut_entries c n [] f h = refl
 cut_entries c n (entry v ∷ l) f h = rw (lt-leb v.birth n (marks_below v.birth l f.1 n h)) (cut_entries v.birth n l f.1 h)
 cut_entries c n (mark m ∷ l) f h = elim (or_cases (eqb n m) (has n (marks l)) h) [
@@ -87,7 +86,7 @@ cut_entries c n (mark m ∷ l) f h = elim (or_cases (eqb n m) (has n (marks l)) 
 ]
 
 pub cut_marks : (c n : ℕ) (l : List Item) → Falls c l → has n (marks l) ≡ true → keep (λ m. leb m n) (marks l) ≡ n ∷ marks (before n l)
-unfolding entries marks before any keep
+unfolding entries marks before keep
 cut_marks c n [] f h = let z : ◌≡◌ {A = ℕ} 0 1 = cc in absurd (omega arith)
 cut_marks c n (entry v ∷ l) f h = cut_marks v.birth n l f.1 h
 cut_marks c n (mark m ∷ l) f h = elim (or_cases (eqb n m) (has n (marks l)) h) [
@@ -97,7 +96,7 @@ cut_marks c n (mark m ∷ l) f h = elim (or_cases (eqb n m) (has n (marks l)) h)
 ]
 
 pub back_marks : (c n : ℕ) (l : List Item) → Falls c l → has n (marks l) ≡ true → keep (λ m. ltb m n) (marks l) ≡ marks (before n l)
-unfolding entries marks before any keep
+unfolding entries marks before keep
 back_marks c n [] f h = refl
 back_marks c n (entry v ∷ l) f h = back_marks v.birth n l f.1 h
 back_marks c n (mark m ∷ l) f h = elim (or_cases (eqb n m) (has n (marks l)) h) [
@@ -107,7 +106,7 @@ back_marks c n (mark m ∷ l) f h = elim (or_cases (eqb n m) (has n (marks l)) h
 ]
 
 pub falls_before : (c n : ℕ) (l : List Item) → Falls c l → has n (marks l) ≡ true → Falls n (before n l)
-unfolding entries marks before any keep
+unfolding entries marks before keep
 falls_before c n [] f h = tt
 falls_before c n (entry v ∷ l) f h = falls_before v.birth n l f.1 h
 falls_before c n (mark m ∷ l) f h = elim (or_cases (eqb n m) (has n (marks l)) h) [

@@ -28,7 +28,7 @@ opened cap true s e t h = h.is_open_after
 opened cap false s e t h = h.is_open_after ∙ opens_when e.answer s.reading.clock _ (opens (effect_of e.call) false) h.answer
 
 pub reached : (cap : ℕ) (label : List ℕ) (es : List Event) (t : State) → Run cap label es t → Reached es t
-unfolding line_of feed clock_after open_after gave ended passed any entries marks settle keep
+unfolding line_of feed clock_after open_after gave ended passed entries marks settle keep
 reached cap label [] t h = rw h
     (record {
       open_is = refl;

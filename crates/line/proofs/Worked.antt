@@ -104,7 +104,7 @@ both_fit : (r : Reading) (cs ds : List Call) → AllByRecursion Fits cs → AllB
 both_fit r cs ds h k = ap (λ q. answers 22 q ds) (after_fit 22 r cs h) ∙ answers_fit 22 (after_fitted 22 r cs) ds k
 
 worked : (label a b buffer : List ℕ) → length a ≡ 512 → length b ≡ 512 → length buffer ≡ 512 → Worked label a b buffer
-unfolding keep any first needed settle rule fitted answers_fitted after_fitted writes
+unfolding keep first needed settle rule fitted answers_fitted after_fitted writes
 worked label a b buffer h k l = record {
   fresh_clock = refl;
   fresh_count = answers_fit 22 (fresh label) (count ∷ []) (tt, tt);

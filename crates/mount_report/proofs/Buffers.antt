@@ -28,7 +28,6 @@ module _ (room : ℕ) (xs buffer : List ℕ) (res : Result ℕ Refusal) (n : ℕ
       ap (take (n - 0)) filled_is ∙ take-append-le (n - 0) xs (replicate (room - length xs) 0) (omega arith) ∙ take_all (n - 0) xs (omega arith)
 
 has_at : (xs : List ℕ) (k : ℕ) → k < length xs → has (get_or xs k 0) xs ≡ true
-unfolding any
 has_at [] k h = absurd (omega arith)
 has_at (x ∷ xs) zero h = rw (eq-eqb x x refl)
 has_at (x ∷ xs) (suc k) h = let t = has_at xs k (omega arith) in grind arith

@@ -28,12 +28,12 @@ count_shuffled : (xs ys : List ℕ) → IsPermutation xs ys → (n : ℕ) → co
 count_shuffled xs ys s n = count_sum n ys ∙ sum_by-IsPermutation (one n) xs ys s ∙ sym (count_sum n xs)
 
 has_none : (n : ℕ) (xs : List ℕ) → has n xs ≡ false → count n xs ≡ 0
-unfolding count any
+unfolding count
 has_none n [] h = refl
 has_none n (x ∷ xs) h = let ih = has_none n xs in grind (arith, nat_tests)
 
 has_some : (n : ℕ) (xs : List ℕ) → has n xs ≡ true → 1 ≤ count n xs
-unfolding count any
+unfolding count
 has_some n [] h = grind arith
 has_some n (x ∷ xs) h = let ih = has_some n xs in grind (arith, nat_tests)
 
@@ -73,7 +73,6 @@ distinct_shuffled xs ys s =
 
 -- neighbours
 below_all : (n : ℕ) (xs : List ℕ) → AllByRecursion (λ y. n < y) xs → has n xs ≡ false
-unfolding any
 below_all n [] h = refl
 below_all n (x ∷ xs) h = let ih = below_all n xs h.1 in let l = h.0 in grind (arith, nat_tests)
 
@@ -102,7 +101,6 @@ module _ (xs : List ℕ) (r : IsNonDecreasing xs) (i : ℕ) (low : 1 ≤ i) (lt 
       ⊥_or {a} {b} h n = omega arith
 
   pub hit : get_or xs (i - 1) 0 ≡ get_or xs i 0 → distinct (drop (i - 1) xs) ≡ false
-  unfolding any
   hit e =
       let s : has (get_or xs (i - 1) 0) (drop i xs) ≡ (eqb (get_or xs (i - 1) 0) (get_or xs i 0) || has (get_or xs (i - 1) 0) (drop (i + 1) xs)) = at_drop_more (λ l. has (get_or xs (i - 1) 0) l) xs i 0 lt in
       let t = eq-eqb (get_or xs (i - 1) 0) (get_or xs i 0) e in
@@ -110,7 +108,7 @@ module _ (xs : List ℕ) (r : IsNonDecreasing xs) (i : ℕ) (low : 1 ≤ i) (lt 
       grind arith
 
 pub distinct_end : (xs : List ℕ) (i : ℕ) → 1 ≤ i → length xs ≤ i → distinct (drop (i - 1) xs) ≡ true
-unfolding any distinct
+unfolding distinct
 distinct_end xs i low h = short (drop (i - 1) xs) (let z = length-drop (i - 1) xs in omega arith)
   where
     short : (ys : List ℕ) → length ys ≤ 1 → distinct ys ≡ true

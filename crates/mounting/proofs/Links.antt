@@ -159,17 +159,15 @@ module _ (held : List ℕ) (vs : List Version) (v : Version) (apart : Apart vs) 
 
 -- the order of held numbers does not matter
 any_aux : (p : ℕ → Bool) (l r : List ℕ) → any p (reverse_aux l r) ≡ (any p l || any p r)
-unfolding any
 any_aux p [] r = refl
 any_aux p (x ∷ xs) r = let ih = any_aux p xs (x ∷ r) in grind arith
 
 pub any_reverse : (p : ℕ → Bool) (l : List ℕ) → any p (reverse l) ≡ any p l
-unfolding any
 any_reverse p l = let h = any_aux p l [] in grind arith
 
 -- births that differ
 birth_stands : (xs : List Saying) (v : Version) → In v (versions xs) → has v.birth (births xs) ≡ true
-unfolding any versions births
+unfolding versions births
 birth_stands [] v i = absurd i
 birth_stands (nothing ∷ xs) v i = birth_stands xs v i
 birth_stands (version w ∷ xs) v (inl e) = or_left (eqb v.birth w.birth) _ (eq-eqb v.birth w.birth (ap (λ (u : Version). u.birth) e))

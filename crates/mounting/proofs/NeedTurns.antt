@@ -8,7 +8,6 @@ use Rattle.mounting.specs.Needed.{any_from, is_needed, needed_count}
 
 module _ (low high : ℕ) (held : List ℕ) (i : ℕ) (lt : i < length held) where
   any_step : any_from low high (drop i held) ≡ ((leb low (get_or held i 0) && ltb (get_or held i 0) high) || any_from low high (drop (i + 1) held))
-  unfolding any
   any_step = at_drop_more (any_from low high) held i 0 lt
 
   pub any_hit : low ≤ get_or held i 0 → get_or held i 0 < high → any_from low high (drop i held) ≡ true
@@ -21,7 +20,6 @@ module _ (low high : ℕ) (held : List ℕ) (i : ℕ) (lt : i < length held) whe
   any_high p = let e = le-ltb (get_or held i 0) high p in let s = any_step in grind arith
 
 pub any_end : (low high : ℕ) (held : List ℕ) (i : ℕ) → length held ≤ i → any_from low high (drop i held) ≡ false
-unfolding any
 any_end low high held i h = at_drop_all (any_from low high) held i h
 
 pub count_more : (held : List ℕ) (rs : List Record) (i : ℕ) (d : Record) → i < length rs → (b : Bool) → b ≡ is_needed held (get_or rs i d) →

@@ -140,7 +140,7 @@ abbrev Youngest : List Saying → Best → Type 0
 Youngest xs o = ((o ≡ None) × (any is_register xs ≡ false)) ⊎ ((o ≡ Some (values (latest xs))) × (any is_register xs ≡ true))
 
 pub young_is : (ps : List Page) → Youngest (sayings ps) (youngest None ps)
-unfolding said latest any
+unfolding said latest
 young_is [] = inl (refl, refl)
 young_is (p ∷ ps) = go (meaning p) (young_is ps)
   where

@@ -20,14 +20,13 @@ good_from k (register r ∷ xs) o h = good_from (k + 1) xs o (λ c i. h c (inr i
 good_from k (bad c ∷ xs) o h = absurd (h c (inl refl))
 
 any_register : (xs : List Saying) (g : Register) → In (register g) xs → any is_register xs ≡ true
-unfolding any
 any_register [] g i = absurd i
 any_register (x ∷ xs) g (inl e) = or_left (is_register x) (any is_register xs) (ap is_register (sym e))
 any_register (x ∷ xs) g (inr i) = or_right (is_register x) (any is_register xs) (any_register xs g i)
 
 -- A birth is that of a page.
 birth_in_lem : (n : ℕ) (xs : List Saying) → has n (births xs) ≡ true → (x : Saying) × In x xs × (is_nothing x ≡ false) × (birth_of x ≡ n)
-unfolding any births
+unfolding births
 birth_in_lem n [] h = absurd (both_ways false refl h)
 birth_in_lem n (x ∷ xs) h = go (is_nothing x) refl h (birth_in_lem n xs)
   where

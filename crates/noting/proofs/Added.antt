@@ -228,11 +228,9 @@ released_reads xs n held e =
 
 -- A test of some number of a list does not turn on the order.
 pub any_append : (p : ℕ → Bool) (xs ys : List ℕ) → any p (xs ++ ys) ≡ (any p xs || any p ys)
-unfolding any
 any_append p [] ys = refl
 any_append p (x ∷ xs) ys = let ih = any_append p xs ys in grind arith
 
 pub any_reverse : (p : ℕ → Bool) (xs : List ℕ) → any p (reverse xs) ≡ any p xs
-unfolding any
 any_reverse p [] = refl
 any_reverse p (x ∷ xs) = let e = ap (any p) (reverse-append (x ∷ []) xs) in let f = any_append p (reverse xs) (x ∷ []) in let ih = any_reverse p xs in grind arith

@@ -52,7 +52,6 @@ module _ (p : ℕ → Bool) (ns out : List ℕ) (count i : ℕ) (h : i < length 
       ap (λ l. take count out ++ l) (sym s) ∙ e
 
 pub has_step : (n : ℕ) (ns : List ℕ) (i : ℕ) → i < length ns → has n (drop i ns) ≡ (eqb n (get_or ns i 0) || has n (drop (i + 1) ns))
-unfolding any
 has_step n ns i h = at_drop_more (has n) ns i 0 h
 
 pub keep_end : (p : ℕ → Bool) (ns out : List ℕ) (count i : ℕ) → length ns ≤ i → take count out ++ keep p (drop i ns) ≡ keep p ns → take count out ≡ keep p ns
@@ -62,7 +61,6 @@ keep_end p ns out count i h e =
     sym (append-nil (take count out)) ∙ ap (λ l. take count out ++ l) (sym z) ∙ e
 
 pub has_end : (n : ℕ) (ns : List ℕ) (i : ℕ) → length ns ≤ i → has n (drop i ns) ≡ false
-unfolding any
 has_end n ns i h = at_drop_all (has n) ns i h
 
 module _ (held : Bounded ℕ 8) where

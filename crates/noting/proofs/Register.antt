@@ -26,7 +26,6 @@ use Rattle.noting.proofs.Version.{ticks}
 
 -- The held numbers of a freeze and of a release.
 pub holdable_frozen : (pages : List Page) (held : List ℕ) → held ≡ (latest (sayings pages)).held ++ (suc (clock_of (sayings pages)) ∷ []) → Holdable pages held
-unfolding any
 holdable_frozen pages held e h t =
     let now = suc (clock_of (sayings pages)) in
     let old = (latest (sayings pages)).held in

@@ -48,7 +48,6 @@ first_passes q [] x h = grind arith
 first_passes q (y ∷ ys) x h = let ih = first_passes q ys x in grind arith
 
 pub any_ext : {A : Type 0} (p q : A → Bool) (l : List A) → AllByRecursion (λ x. p x ≡ q x) l → any p l ≡ any q l
-unfolding any
 any_ext p q [] h = refl
 any_ext p q (x ∷ xs) h = rw (h.0, any_ext p q xs h.1)
 
@@ -71,7 +70,7 @@ keep_all [] = refl
 keep_all (x ∷ xs) = rw (keep_all xs)
 
 pub has_keep : (h : ℕ → Bool) (l : List ℕ) (n : ℕ) → has n (keep h l) ≡ (has n l && h n)
-unfolding keep any
+unfolding keep
 has_keep h [] n = refl
 has_keep h (x ∷ xs) n = let ih = has_keep h xs n in grind (arith, nat_tests)
 

@@ -14,13 +14,13 @@ pub born : List Version → Version → Bool
 born l v = any (λ (w : Version). eqb v.birth w.birth) l
 
 pub born_in : (l : List Version) (v : Version) → In v l → born l v ≡ true
-unfolding born any
+unfolding born
 born_in [] v h = absurd h
 born_in (w ∷ ws) v (inl k) = rw k (grind (arith, nat_tests))
 born_in (w ∷ ws) v (inr k) = let ih = born_in ws v k in grind (arith, nat_tests)
 
 in_born : (l : List Version) (v : Version) → born l v ≡ true → (w : Version) × In w l × (w.birth ≡ v.birth)
-unfolding born any
+unfolding born
 in_born [] v h = let z : ◌≡◌ {A = ℕ} 0 1 = cc in absurd (omega arith)
 in_born (w ∷ ws) v h = elim (or_cases (eqb v.birth w.birth) (born ws v) h) [
   | inl t ↦ (w, inl refl, sym (eqb-true v.birth w.birth t))

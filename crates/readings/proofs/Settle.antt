@@ -22,13 +22,11 @@ Counts held now = Unit {0}
 Counts held (upto n) = has n held ≡ true
 
 pub any_has : (p : ℕ → Bool) (l : List ℕ) (n : ℕ) → has n l ≡ true → p n ≡ true → any p l ≡ true
-unfolding any
 any_has p [] n h t = grind arith
 any_has p (m ∷ ms) n h t = let ih = any_has p ms n in grind (arith, nat_tests)
 
 -- what passes at some element
 pub has_any : (p : ℕ → Bool) (l : List ℕ) → any p l ≡ true → (n : ℕ) × (has n l ≡ true) × (p n ≡ true)
-unfolding any
 has_any p [] h = let z : ◌≡◌ {A = ℕ} 0 1 = cc in absurd (omega arith)
 has_any p (m ∷ ms) h = elim (or_cases (p m) (any p ms) h) [
   | inl t ↦ (m, or_left (eqb m m) (has m ms) (eq-eqb m m refl), t)
@@ -143,7 +141,7 @@ settle_cut held fewer n l holds sub = ap (settle fewer) swap ∙ settle_drop few
 
 -- a number held from now on
 pub settle_freeze : (held : List ℕ) (n : ℕ) (l : List Version) → AllByRecursion (λ w. w.birth ≤ n) l → settle (n ∷ held) l ≡ settle held l
-unfolding settle any
+unfolding settle
 settle_freeze held n l old = keep_ext (needed (n ∷ held) l) (needed held l) l (all_of _ l (λ v. same_bool (needed (n ∷ held) l v) (needed held l v) (less v) (more v)))
   where
     more : (v : Version) → needed held l v ≡ true → needed (n ∷ held) l v ≡ true

@@ -8,11 +8,9 @@ use Rattle.store.specs.declared.slips.Slip.{Slip}
 use Rattle.session.specs.Slips.{without, slip_number, slip_numbers, Place}
 
 pub has_none : (n : ℕ) → has n [] ≡ false
-unfolding any
 has_none n = refl
 
 pub has_head : (n m : ℕ) (ms : List ℕ) → n ≡ m → has n (m ∷ ms) ≡ true
-unfolding any
 has_head n m ms e = ap (λ b. b || any (eqb n) ms) (eq-eqb n m e)
 
 neither : (a b : Bool) → (a || b) ≡ false → (a ≡ false) × (b ≡ false)
@@ -21,7 +19,6 @@ neither false b e = (refl, e)
 
 -- one more, which is not n
 pub has_push : (n m : ℕ) (ms : List ℕ) → has n ms ≡ false → eqb n m ≡ false → has n (ms ++ m ∷ []) ≡ false
-unfolding any
 has_push n m [] h e = ap (λ b. b || false) e
 has_push n m (k ∷ ms) h e =
     let q = neither (eqb n k) (any (eqb n) ms) h in
@@ -29,7 +26,6 @@ has_push n m (k ∷ ms) h e =
 
 -- the first n stands at i
 pub first_at : (n : ℕ) (ss : List Slip) (i : ℕ) (d : Slip) → i < length ss → has n (slip_numbers (take i ss)) ≡ false → slip_number (get_or ss i d) ≡ n → (has n (slip_numbers ss) ≡ true) × (slip_numbers (remove ss i) ≡ without n (slip_numbers ss))
-unfolding any
 first_at n [] i d l h e = absurd (omega arith)
 first_at n (s ∷ ss) zero d l h e =
     (has_head n (slip_number s) (slip_numbers ss) (sym e), ap (λ b. cond b (slip_numbers ss) (slip_number s ∷ without n (slip_numbers ss))) (sym (eq-eqb n (slip_number s) (sym e))))

@@ -1,6 +1,6 @@
 -- The record of a page.
-use Rattle.std.specs.Prelude.{◌≡◌, ℕ, List}
-use Rattle.readings.specs.Versions.{Content, bytes, deleted}
+use Rattle.std.specs.Prelude.{◌≡◌, ℕ, Bool, true, false, ◌&&◌, ◌||◌, List, ◌==◌, nat_le, nat_lt}
+use Rattle.readings.specs.Versions.{Content, bytes, deleted, any}
 use Rattle.readings.specs.Sayings.{Saying, nothing, version, register, bad}
 use Rattle.chip.specs.declared.BlockNumber.{BlockNumber}
 use Rattle.limits.specs.declared.types.Bounded.{Bounded}
@@ -15,6 +15,23 @@ unused = record { birth = 0; link = 0; sector = 0; kind = kind.Erased }
 abbrev pub kind_of : Content → Kind
 kind_of (bytes bs) = kind.Data
 kind_of deleted = kind.Deletion
+
+abbrev pub is_version : Kind → Bool
+is_version kind.Erased = false
+is_version kind.Data = true
+is_version kind.Deletion = true
+is_version kind.Register = false
+
+-- A number is held that is at or after a birth and before a link.
+abbrev pub held_between : List ℕ → ℕ → ℕ → Bool
+held_between held birth link = any (λ h. nat_le birth h && nat_lt h link) held
+
+-- A version is needed if nothing replaced it, or some held number still sees it.
+abbrev pub needed_by : List ℕ → ℕ → ℕ → Bool
+needed_by held birth link = link == 0 || held_between held birth link
+
+abbrev pub is_needed : List ℕ → Record → Bool
+is_needed held r = is_version r.kind && needed_by held r.birth r.link
 
 -- The record says what the page says; there is none for a bad page.
 abbrev pub Agrees : Saying → Record → Type 0

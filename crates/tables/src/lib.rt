@@ -2,13 +2,39 @@
 #![tactic(auto)]
 
 ghost use Rattle.std.specs.Prelude.{◌≡◌, ◌≤◌, length, slice_index_or, slice_set};
-ghost use Rattle.tables.specs.Records.{unused, rest_of};
+ghost use Rattle.tables.specs.Records.{is_version, held_between, is_needed, unused, rest_of};
 
 pub mod index;
 pub mod types;
 
 pub use index::{Index, MOST_PAGES, NO_PAGE};
 pub use types::{Kind, Record};
+
+impl Kind {
+    pub fn is_version(self) -> bool
+        ensures { result ≡ is_version self }
+    {
+        matches!(self, Kind::Data | Kind::Deletion)
+    }
+}
+
+// Whether a held number is at or after `birth` and before `link`. (A link can be one more than any
+// clock.)
+pub fn is_held_between(held: &[u32], birth: u32, link: u64) -> bool
+    ensures { result ≡ held_between held.now birth link }
+{
+    held.iter().any(|h| birth <= *h && u64::from(*h) < link)
+}
+
+impl Record {
+    // Whether it is of a version that the present or a held number needs.
+    pub fn is_needed(self, held: &[u32]) -> bool
+        ensures { result ≡ is_needed held.now self }
+    {
+        self.kind.is_version()
+            && (self.link == 0 || is_held_between(held, self.birth, u64::from(self.link)))
+    }
+}
 
 // The record of an erased page.
 pub fn unused_record() -> Record

@@ -5,11 +5,9 @@ use Rattle.readings.specs.Versions.{any}
 use Rattle.moving.proofs.is_held_between.Goals as goal
 
 step : (birth link : ℕ) (held : List ℕ) (i : ℕ) → i < length held → any (λ h. leb birth h && ltb h link) (drop i held) ≡ (leb birth (get_or held i 0) && ltb (get_or held i 0) link || any (λ h. leb birth h && ltb h link) (drop (i + 1) held))
-unfolding any
 step birth link held i h = at_drop_more (any (λ h. leb birth h && ltb h link)) held i 0 h
 
 none : (birth link : ℕ) → any (λ h. leb birth h && ltb h link) [] ≡ false
-unfolding any
 none birth link = refl
 
 pub returns-then-h-link : goal.returns-then-h-link

@@ -7,11 +7,9 @@ use Rattle.noting.proofs.counts.is_held_between.Goals as goal
 
 step : (birth link : ℕ) (held : List ℕ) (i : ℕ) → i < length held →
     held_between (drop i held) birth link ≡ (leb birth (get_or held i 0) && ltb (get_or held i 0) link || held_between (drop (i + 1) held) birth link)
-unfolding any
 step birth link held i h = at_drop_more (λ hs. held_between hs birth link) held i 0 h
 
 end : (birth link : ℕ) (held : List ℕ) (i : ℕ) → length held ≤ i → held_between (drop i held) birth link ≡ false
-unfolding any
 end birth link held i h = at_drop_all (λ hs. held_between hs birth link) held i h
 
 pub returns-then-h-link : goal.returns-then-h-link
