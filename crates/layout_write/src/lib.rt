@@ -37,7 +37,7 @@ fn clear(bytes: &mut [u8])
     requires { length bytes.old ≡ 512 }
     ensures { bytes.new ≡ replicate 512 0 }
 {
-    bytes.copy_from_slice(&[0; DATA_BYTES]);
+    bytes.fill(0);
 }
 
 // Writes a version's data and its tag.
@@ -70,12 +70,11 @@ pub fn write_deletion(version: Version, page: &mut [u8; PAGE_BYTES])
 
 // The held numbers, four bytes each.
 fn held_bytes(given: &Held) -> [u8; 32]
-    ensures { take (4 * given.now.count) result ≡ flat_map le32 (held_of given.now) }
+    ensures { take (4 * given.now.len) result ≡ flat_map le32 (held_of given.now) }
 {
-    let numbers = given.as_slice();
     let mut out = [0; 32];
-    for i in 0..numbers.len() {
-        put(&mut out, NUMBER_BYTES * i, &numbers[i].to_le_bytes());
+    for (i, number) in given.as_slice().iter().enumerate() {
+        put(&mut out, NUMBER_BYTES * i, &number.to_le_bytes());
     }
     out
 }
@@ -96,10 +95,9 @@ fn put_pairs(out: &mut [u8], parts: &[&[u8]])
     ensures { out.new ≡ paste out.old 0 (pairs_from (4 * length parts.now) (contents parts.now)) (4 * length parts.now) }
 {
     let mut at = PAIR_BYTES * parts.len();
-    for i in 0..parts.len() {
-        let size = parts[i].len();
-        put(out, PAIR_BYTES * i, &pair(at, size));
-        at += size;
+    for (i, part) in parts.iter().enumerate() {
+        put(out, PAIR_BYTES * i, &pair(at, part.len()));
+        at += part.len();
     }
 }
 
@@ -109,8 +107,7 @@ fn put_parts(out: &mut [u8], parts: &[&[u8]])
     ensures { out.new ≡ paste out.old (4 * length parts.now) (whole (contents parts.now)) (length (whole (contents parts.now))) }
 {
     let mut at = PAIR_BYTES * parts.len();
-    for i in 0..parts.len() {
-        let part = parts[i];
+    for part in parts {
         put(out, at, part);
         at += part.len();
     }
@@ -140,7 +137,7 @@ pub fn write_register(register: &Register, page: &mut [u8; PAGE_BYTES])
     ensures reads { meaning page.new ≡ layout.Register register.now.birth.number (held_of register.now.held) (label_of register.now.label) }
 {
     let held = held_bytes(&register.held);
-    let size = NUMBER_BYTES * register.held.count;
+    let size = NUMBER_BYTES * register.held.len;
     put_both(
         &mut page[0..DATA_BYTES],
         &held[0..size],

@@ -62,10 +62,6 @@ abbrev pub answer : Result (Option Register) BadPage → Result (Option Register
 answer (Ok found) = Ok (options.option_map register_values found)
 answer (Err b) = Err (bad_of b)
 
-abbrev pub numbered : {T : Type 0} → Result T Cause → ℕ → Result T BadPage
-numbered (Ok x) n = Ok x
-numbered (Err cause) n = Err (record { page = record { 0 = n }; cause = cause })
-
 -- What one page of the number n answers.
 abbrev pub Checked : List ℕ → ℕ → Result Page BadPage → Type 0
 Checked p n (Ok x) = page_meaning x ≡ meaning p

@@ -5,7 +5,7 @@ ghost use Rattle.std.specs.Prelude.{◌≡◌, ◌<◌, [], map, length, slice_i
 ghost use Rattle.std.specs.Option.{option_map};
 ghost use Rattle.limits.specs.Values.{register_values};
 ghost use Rattle.layout.specs.Page.{page_meaning, tag_of};
-ghost use Rattle.scan.specs.Scan.{younger, tags_read, scanned, answer, numbered, Checked};
+ghost use Rattle.scan.specs.Scan.{younger, tags_read, scanned, answer, Checked};
 
 use chip::{Chip, PageNumber};
 use layout::{Cause, Page, Tag, check_page};
@@ -18,16 +18,6 @@ pub struct BadPage {
     pub cause: Cause,
 }
 
-// Adds the page to a cause.
-fn at_page<T>(r: Result<T, Cause>, page: PageNumber) -> Result<T, BadPage>
-    ensures { result ≡ numbered r page.0 }
-{
-    match r {
-        Ok(x) => Ok(x),
-        Err(cause) => Err(BadPage { page, cause }),
-    }
-}
-
 // Reads and checks one page.
 fn check_at<C: Chip>(chip: &C, number: u32) -> Result<Page, BadPage>
     requires { number < length (C.Chip.pages chip.now) }
@@ -37,7 +27,7 @@ fn check_at<C: Chip>(chip: &C, number: u32) -> Result<Page, BadPage>
     let mut buffer = [0; 528];
     // The page is there, and the buffer as long as a page.
     let _ = chip.read(page, &mut buffer);
-    at_page(check_page(&buffer), page)
+    check_page(&buffer).map_err(|cause| BadPage { page, cause })
 }
 
 // The younger of the register found so far and of a page, if that is a register.
@@ -48,14 +38,8 @@ fn younger(best: Option<Register>, page: Page) -> Option<Register>
         return best;
     };
     match best {
-        None => Some(register),
-        Some(former) => {
-            if former.birth.number < register.birth.number {
-                Some(register)
-            } else {
-                Some(former)
-            }
-        }
+        Some(former) if former.birth.number >= register.birth.number => Some(former),
+        _ => Some(register),
     }
 }
 
@@ -69,6 +53,7 @@ pub fn scan<C: Chip>(chip: &C, table: &mut [Tag]) -> Result<Option<Register>, Ba
     let mut best = None;
     for k in 0..count {
         let page = check_at(chip, k as u32)?;
+        // A write through `get_mut` leaves no fact of the table: tried.
         if k < table.len() {
             table[k] = page.tag();
         }

@@ -13,12 +13,6 @@ pair-requires c =
     let e = ap length (lent rs i (omega arith)) in
     (omega (arith, s), omega (arith, s, e))
 
-pub put-requires : goal.put-requires
-put-requires c = omega (arith, ap length c.pair.ensures)
-
-pub loop-i-init : goal.loop-i-init
-loop-i-init c = (omega arith, omega arith, refl)
-
 pub overflow_add-at : goal.overflow_add-at
 overflow_add-at c =
     let rs = c.args.parts.now in
@@ -41,10 +35,3 @@ loop-i-preserved c =
       omega (arith, w, e),
       c.put.ensures ∙ (λ k. paste (c.loop-i.invariant.2 k) (4 * i) (pair k) (length (pair k))) ∙ pairs_more xs i in-range c.args.out.now (4 * length rs),
     )
-
-pub returns : goal.returns
-returns c =
-    let rs = c.args.parts.now in
-    let all = take_all c.loop-i.i (contents rs) (omega (arith, length_contents rs)) in
-    let end : c.loop-i.i ≡ length rs = omega arith in
-    c.loop-i.invariant.2 ∙ (λ k. paste c.args.out.now 0 (pairs_from (4 * length rs) (all k)) (4 * end k))

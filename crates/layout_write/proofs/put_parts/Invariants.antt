@@ -3,8 +3,8 @@ use lib.Seq.{paste}
 use Rattle.layout_write.specs.Written.{whole, contents}
 use Rattle.layout_write.proofs.put_parts.Given as goal
 
-abbrev pub invariant-loop-i : goal.invariant-loop-i
-invariant-loop-i l =
+abbrev pub invariant-loop-part : goal.invariant-loop-part
+invariant-loop-part l =
     (length l.out ≡ 512)
-    × (l.at ≡ 4 * length l.parts + length (whole (take l.i (contents l.parts))))
-    × (l.out ≡ paste l.initial.out (4 * length l.parts) (whole (take l.i (contents l.parts))) (length (whole (take l.i (contents l.parts)))))
+    × (l.at ≡ 4 * length l.parts + length (whole (take l.part-index (contents l.parts))))
+    × (l.out ≡ paste l.initial.out (4 * length l.parts) (whole (take l.part-index (contents l.parts))) (length (whole (take l.part-index (contents l.parts)))))
