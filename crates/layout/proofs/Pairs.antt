@@ -1,7 +1,6 @@
 -- The pairs of a register, one after the other.
-use Rattle.std.proofs.Common.{◌≡◌, ℕ, ◌+◌, ◌*◌, ◌/◌, ◌%◌, ◌<◌, ◌≤◌, Bool, true, false, cond, ◌&&◌, eqb, leb, List, ◌∷◌, length, get_or, drop, Some, None, sym, refl, ap, ◌∙◌, arith}
-use Rattle.std.proofs.lemmas.List.{at_drop_more}
-use Rattle.std.proofs.lemmas.Bool.{and_parts, eq-eqb, eqb-true, ne_eqb, leb-true, and_right, cond-false, cond_both}
+use Rattle.std.proofs.Common.{◌≡◌, ℕ, ◌+◌, ◌*◌, ◌/◌, ◌%◌, ◌≤◌, true, ◌&&◌, eqb, leb, List, ◌∷◌, Some, None, arith}
+use Rattle.std.proofs.lemmas.Bool.{and_parts, eqb-true, leb-true, cond_both}
 use Rattle.layout.specs.Bytes.{u16_at}
 use Rattle.layout.specs.Parts.{unit_of, most_of, fits, parts_end}
 use Rattle.layout.specs.declared.parts.PartKind.{PartKind}

@@ -6,7 +6,6 @@ use Rattle.limits.specs.Values.{RegisterValues, register_values}
 use Rattle.limits.specs.declared.types.Register.{Register}
 use Rattle.layout.specs.Page as layout
 use Rattle.layout.specs.Page.{Meaning, meaning, page_meaning, summary, cause_number}
-use Rattle.layout.specs.declared.pages.Cause.{Cause}
 use Rattle.layout.specs.declared.pages.Page.{Page}
 use Rattle.scan.specs.declared.BadPage.{BadPage}
 

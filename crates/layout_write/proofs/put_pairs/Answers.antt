@@ -1,7 +1,6 @@
-use Rattle.std.proofs.Common.{◌≡◌, ◌+◌, ◌*◌, ◌<◌, [], ◌++◌, length, get_or, take, refl, ap, ◌∙◌, arith}
+use Rattle.std.proofs.Common.{◌≡◌, ◌+◌, ◌*◌, ◌<◌, [], ◌++◌, length, get_or, take, ap, ◌∙◌, arith}
 use lib.Seq.{paste}
-use Rattle.std.proofs.lemmas.List.{take_all}
-use Rattle.layout_write.specs.Written.{le16, pairs_from, whole, contents}
+use Rattle.layout_write.specs.Written.{le16, whole, contents}
 use Rattle.layout_write.proofs.Writes.{lent, length_contents, whole_more, size_fits_lem, pairs_more}
 use Rattle.layout_write.proofs.put_pairs.Goals as goal
 

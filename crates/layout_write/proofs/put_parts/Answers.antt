@@ -1,8 +1,6 @@
-use Rattle.std.proofs.Common.{◌*◌, ◌<◌, [], length, ap, ◌∙◌, arith}
+use Rattle.std.proofs.Common.{◌*◌, ◌<◌, length, ap, ◌∙◌, arith}
 use lib.Seq.{paste}
-use Rattle.std.proofs.lemmas.List.{take_all}
-use Rattle.std.proofs.lemmas.List.Edits.{paste_none}
-use Rattle.layout_write.specs.Written.{whole, contents}
+use Rattle.layout_write.specs.Written.{contents}
 use Rattle.layout_write.proofs.Writes.{lent, length_contents, whole_more, size_fits_lem, parts_more}
 use Rattle.layout_write.proofs.put_parts.Goals as goal
 

@@ -1,4 +1,4 @@
-use Rattle.std.proofs.Common.{◌+◌, ◌*◌, ◌<◌, ◌≤◌, map, length, drop, None, Ok, Err, sym, ap, ◌∙◌, arith}
+use Rattle.std.proofs.Common.{◌+◌, ◌*◌, ◌<◌, map, length, drop, None, Err, sym, ap, ◌∙◌, arith}
 use Rattle.std.specs.Option.{option_map}
 use Rattle.std.proofs.lemmas.List.{map-set, length-map}
 use Rattle.std.proofs.lemmas.Result.{err_from_is_err_and}
@@ -6,7 +6,7 @@ use Rattle.std.proofs.lemmas.Bool.{cases_lt}
 use Rattle.limits.specs.Values.{register_values}
 use Rattle.layout.specs.Page.{tag_of, cause_number}
 use Rattle.scan.specs.Scan.{unless_bad, youngest}
-use Rattle.scan.proofs.Turns.{table_from, low_bad, low_good, young_more, table_bad, table_good, table_past, low_all, young_all, table_all}
+use Rattle.scan.proofs.Turns.{table_from, low_bad, low_good, young_more, table_bad, table_good, table_past}
 use Rattle.scan.proofs.scan.Goals as goal
 use Rattle.scan.proofs.scan.Goals.{then-k-table, else-k-table}
 
@@ -42,15 +42,3 @@ loop-k-preserved g c =
         | else-k-table w ↦ ap (λ t. table_from ps (k + 1) (map tag_of t)) w.table-is ∙ table_past ps k in-range ts (omega arith) ∙ c.loop-k.invariant.2
       ],
     )
-
-pub returns : goal.returns
-returns g c =
-    let ps = g.C.Chip.pages c.args.chip.now in
-    let k = c.loop-k.k in
-    let all = (λ i. c.size.ensures i * c.block_pages.ensures i) ∙ sym (g.C.Chip.shape.whole c.args.chip.now) in
-    let past : length ps ≤ k = omega arith in
-    let best = option_map register_values c.loop-k.best in
-    record {
-      answer = ap Ok (sym (young_all ps k past best) ∙ c.loop-k.invariant.1) ∙ ap (λ o. unless_bad o (youngest None ps)) (sym (low_all ps k past) ∙ c.loop-k.invariant.0);
-      table = sym (table_all ps k past (map tag_of c.loop-k.table)) ∙ c.loop-k.invariant.2;
-    }
