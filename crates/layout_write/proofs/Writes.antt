@@ -4,7 +4,7 @@ use borrow.Rule.Slice.PartMut.{put_mid, post_of}
 use lib.Seq.{paste}
 use Rattle.std.specs.List.{flat_map}
 use Rattle.std.proofs.lemmas.List.{take_at, drop_at, drop_all, append-nil, length-drop, length-take-le, length-map, take_more, get_or-map, flat_map_more, length-append, drop-replicate}
-use Rattle.std.proofs.lemmas.List.Edits.{paste-paste, paste_all, take-paste}
+use Rattle.std.proofs.lemmas.List.Edits.{paste-paste, paste_all}
 use Rattle.layout_write.specs.Written.{le16, le32, pairs_from, whole, padded, register_data, contents}
 
 -- the data and then the tag are written over all of a page
@@ -23,15 +23,6 @@ joined_take f xs i d h = ap (flat_map f) (take_more xs i d h) ∙ sym (flat_map_
 pub length_fours : (ns : List ℕ) → length (flat_map le32 ns) ≡ 4 * length ns
 length_fours [] = refl
 length_fours (n ∷ ns) = omega (arith, length_fours ns)
-
--- one more held number is written
-pub numbers_more : (out : List ℕ) (ns : List ℕ) (i : ℕ) → i < length ns → 4 * i + 4 ≤ length out → take (4 * i) out ≡ flat_map le32 (take i ns) → take (4 * (i + 1)) (paste out (4 * i) (le32 (get_or ns i 0)) 4) ≡ flat_map le32 (take (i + 1) ns)
-numbers_more out ns i h fits inv =
-    let e : 4 * (i + 1) ≡ 4 * i + 4 = omega arith in
-    ap (λ n. take n (paste out (4 * i) (le32 (get_or ns i 0)) 4)) e
-    ∙ take-paste out (4 * i) (le32 (get_or ns i 0)) 4 (omega arith) (omega arith)
-    ∙ ap (λ f. f ++ le32 (get_or ns i 0)) inv
-    ∙ sym (joined_take le32 ns i 0 h)
 
 -- a lent part, at the default that the checker reads past the end with
 abbrev pub no_part : Bor (List ℕ)

@@ -1,6 +1,6 @@
 -- One turn of a scan.
-use Rattle.std.proofs.Common.{◌≡◌, ℕ, ◌+◌, ◌<◌, ◌≤◌, ◌⊎◌, List, [], ◌∷◌, ◌++◌, length, get_or, take, drop, set, Some, None, Option, sym, refl, ap, ◌∙◌, inl, inr, arith}
-use Rattle.std.proofs.lemmas.List.{at_drop_more, at_drop_all, drop_more, drop_all, take-append-drop, take_all, take_more_set, append_assoc, drop-set-lt}
+use Rattle.std.proofs.Common.{◌≡◌, ℕ, ◌+◌, ◌<◌, ◌≤◌, ◌⊎◌, List, [], ◌∷◌, ◌++◌, length, get_or, take, drop, set, Some, Option, sym, refl, ap, ◌∙◌, inl, inr, arith}
+use Rattle.std.proofs.lemmas.List.{at_drop_more, drop_more, drop_all, take-append-drop, take_all, take_more_set, append_assoc, drop-set-lt}
 use Rattle.chip.specs.Pages as chip
 use Rattle.limits.specs.Values.{RegisterValues}
 use Rattle.layout.specs.Page as layout
@@ -64,14 +64,3 @@ module _ (ps : List chip.Page) (k : ℕ) (lt : k < length ps) where
     table_past h =
         let none = λ (n : ℕ) (qs : List chip.Page) (g : length ts ≤ n). (λ i. take_all n ts g i ++ tags_read qs (drop_all n ts g i)) ∙ ap (λ r. ts ++ r) (tags_none qs) in
         none (k + 1) (drop (k + 1) ps) (omega arith) ∙ sym (none k (drop k ps) h)
-
--- all pages are read
-module _ (ps : List chip.Page) (k : ℕ) (past : length ps ≤ k) where
-  pub low_all : lowest_bad k (drop k ps) ≡ None
-  low_all = at_drop_all (lowest_bad k) ps k past
-
-  pub young_all : (best : Option RegisterValues) → youngest best (drop k ps) ≡ best
-  young_all best = at_drop_all (youngest best) ps k past
-
-  pub table_all : (ts : List Triple) → table_from ps k ts ≡ ts
-  table_all ts = ap (λ r. take k ts ++ r) (at_drop_all (λ qs. tags_read qs (drop k ts)) ps k past) ∙ take-append-drop k ts
