@@ -78,9 +78,8 @@ impl PageAt {
         requires { (self.block < nor_blocks image.old) × (length bytes.now ≡ 528) }
         ensures { image.new ≡ programmed image.old self.block self.place bytes.now }
     {
-        for i in 0..PAGE_WORDS {
-            let pair = u16::from_le_bytes([bytes[2 * i], bytes[2 * i + 1]]);
-            image[self.word(i)] &= pair;
+        for (i, pair) in bytes.chunks_exact(2).enumerate() {
+            image[self.word(i)] &= u16::from_le_bytes([pair[0], pair[1]]);
         }
     }
 }
@@ -99,6 +98,7 @@ impl Nor<'_> {
         requires { (page.block < nor_blocks self.now.image.now) × (length buffer.old ≡ 528) }
         ensures { buffer.new ≡ nor_page self.now.image.now (page.block * 8 + page.place) }
     {
+        // By index: after a write through `chunks_exact_mut` a proof knows no byte of the buffer.
         for i in 0..PAGE_WORDS {
             let [low, high] = self.image[page.word(i)].to_le_bytes();
             buffer[2 * i] = low;
@@ -158,7 +158,8 @@ impl Chip for Nor<'_> {
     }
 
     fn erase(&mut self, block: BlockNumber) -> Result<(), ChipFault> {
-        let at = self.block_index(block)? * BLOCK_WORDS;
+        let block = self.block_index(block)?;
+        let at = block * BLOCK_WORDS;
         self.image[at..at + BLOCK_WORDS].fill(0xFFFF);
         Ok(())
     }
