@@ -1,7 +1,6 @@
 -- One more page of an open store.
 use Rattle.std.proofs.Common.{◌≡◌, ℕ, suc, ◌+◌, ◌<◌, ◌≤◌, min, true, List, [], length, get_or, set, Ok, Err, sym, refl, ap, ◌∙◌, subst, arith, length-set}
-use Rattle.chip.specs.declared.ChipFault.TheVariants.{OutOfRange, BufferLength, NotErased}
-use Rattle.chip.specs.Pages.{Page, is_erased, number, program_number, pages_programmed}
+use Rattle.chip.specs.Pages.{Page, is_erased, program_answer, pages_programmed}
 use Rattle.chip.proofs.Ways.{Answer, program_granted}
 use Rattle.readings.specs.Versions.{Content, bytes, deleted, Reading, add}
 use Rattle.readings.specs.Sorted.{reading_of}
@@ -30,18 +29,11 @@ pub clock_is : (xs : List Saying) → (reading xs).clock ≡ clock_of xs
 unfolding reading reading_of
 clock_is xs = refl
 
--- A call that is granted.
-granted : (r : Answer) → number r ≡ 0 → r ≡ Ok tt
-granted (Ok tt) e = refl
-granted (Err OutOfRange) e = absurd (omega arith)
-granted (Err BufferLength) e = absurd (omega arith)
-granted (Err NotErased) e = absurd (omega arith)
-
 pub programmed : (pages : List Page) (p : ℕ) (image : Page) (r : Answer) (after : List Page) → p < length pages → length image ≡ 528 → is_erased (get_or pages p []) ≡ true →
-    number r ≡ program_number pages p (length image) → after ≡ pages_programmed pages p image → (r ≡ Ok tt) × (after ≡ set pages p image)
+    r ≡ program_answer pages p (length image) → after ≡ pages_programmed pages p image → (r ≡ Ok tt) × (after ≡ set pages p image)
 programmed pages p image r after h l e n a =
     let g = program_granted pages p image h l e (set pages p image) refl in
-    (granted r (n ∙ sym g.0), a ∙ sym g.1)
+    (n ∙ sym g.0, a ∙ sym g.1)
 
 module _ (blocks per : ℕ) (pages : List Page) (ix : Index) (can : CanChange blocks per pages ix) (k : ℕ) (pages₁ : List Page) (ix₁ : Index) (ready : Ready blocks per pages k pages₁ ix₁) where
   pub same_clock : clock_of (sayings pages₁) ≡ clock_of (sayings pages)

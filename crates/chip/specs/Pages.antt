@@ -1,6 +1,6 @@
 -- What each call of a chip answers and leaves, over the list of the chip's pages.
-use Rattle.std.specs.Prelude.{◌≡◌, ℕ, ◌+◌, ◌*◌, ◌/◌, ◌%◌, ◌≤◌, Bool, true, cond, ◌&&◌, List, [], ◌∷◌, ◌++◌, length, take, drop, replicate, Ok, Err, Result, ◌==◌, nat_lt, slice_index_or, slice_set}
-use Rattle.std.specs.List.{AllByRecursion}
+use Rattle.std.specs.Prelude.{◌≡◌, ℕ, ◌+◌, ◌*◌, ◌/◌, ◌%◌, ◌≤◌, Bool, if◌then◌else◌, is_ok, List, [], ◌++◌, length, take, drop, replicate, Ok, Err, Result, ◌==◌, nat_lt, slice_index_or, slice_set}
+use Rattle.std.specs.List.{AllByRecursion, list_all}
 use Rattle.chip.specs.declared.BlockNumber.{BlockNumber}
 use Rattle.chip.specs.declared.ChipFault.{ChipFault}
 use Rattle.chip.specs.declared.ChipFault.TheVariants.{OutOfRange, BufferLength, NotErased}
@@ -15,8 +15,7 @@ erased_page = replicate 528 255
 
 -- Whether each byte is FF.
 abbrev pub is_erased : List ℕ → Bool
-is_erased [] = true
-is_erased (x ∷ xs) = x == 255 && is_erased xs
+is_erased bytes = list_all (λ x. x == 255) bytes
 
 -- The number of each refusal.
 abbrev pub fault_number : ChipFault → ℕ
@@ -24,33 +23,41 @@ fault_number OutOfRange = 21
 fault_number BufferLength = 22
 fault_number NotErased = 23
 
--- The number of an answer: 0 where the call is granted.
-abbrev pub number : Result (Unit {0}) ChipFault → ℕ
-number (Ok _) = 0
-number (Err fault) = fault_number fault
+abbrev pub Answer : Type 0
+Answer = Result (Unit {0}) ChipFault
+
+-- A block's number, where the chip has that block.
+abbrev pub block_answer : ℕ → ℕ → Result ℕ ChipFault
+block_answer blocks b = if nat_lt b blocks then Ok b else Err OutOfRange
+
+-- The block of page p and its place there, for a call with n bytes. `per` is the number of pages of a block.
+abbrev pub place_answer : ℕ → List Page → ℕ → ℕ → Result (ℕ × ℕ) ChipFault
+place_answer per pages p n =
+    if nat_lt p (length pages) then (if n == 528 then Ok (p / per, p % per) else Err BufferLength) else Err OutOfRange
 
 module _ (pages : List Page) (p : ℕ) where
   -- For a buffer of n bytes.
-  abbrev pub read_number : ℕ → ℕ
-  read_number n = cond (nat_lt p (length pages)) (cond (n == 528) 0 22) 21
+  abbrev pub read_answer : ℕ → Answer
+  read_answer n = if nat_lt p (length pages) then (if n == 528 then Ok tt else Err BufferLength) else Err OutOfRange
 
   abbrev pub buffer_read : List ℕ → List ℕ
-  buffer_read buffer = cond (read_number (length buffer) == 0) (slice_index_or pages p []) buffer
+  buffer_read buffer = if is_ok (read_answer (length buffer)) then slice_index_or pages p [] else buffer
 
   -- For n bytes.
-  abbrev pub program_number : ℕ → ℕ
-  program_number n = cond (nat_lt p (length pages)) (cond (n == 528) (cond (is_erased (slice_index_or pages p [])) 0 23) 22) 21
+  abbrev pub program_answer : ℕ → Answer
+  program_answer n =
+      if nat_lt p (length pages) then (if n == 528 then (if is_erased (slice_index_or pages p []) then Ok tt else Err NotErased) else Err BufferLength) else Err OutOfRange
 
   abbrev pub pages_programmed : List ℕ → List Page
-  pages_programmed bytes = cond (program_number (length bytes) == 0) (slice_set pages p bytes) pages
+  pages_programmed bytes = if is_ok (program_answer (length bytes)) then slice_set pages p bytes else pages
 
-abbrev pub erase_number : ℕ → ℕ → ℕ
-erase_number blocks b = cond (nat_lt b blocks) 0 21
+abbrev pub erase_answer : ℕ → ℕ → Answer
+erase_answer blocks b = if nat_lt b blocks then Ok tt else Err OutOfRange
 
 -- `per` is the number of pages of a block.
 abbrev pub pages_erased : ℕ → ℕ → List Page → ℕ → List Page
 pages_erased per blocks pages b =
-    cond (erase_number blocks b == 0) (take (b * per) pages ++ (replicate per erased_page ++ drop (b * per + per) pages)) pages
+    if is_ok (erase_answer blocks b) then take (b * per) pages ++ (replicate per erased_page ++ drop (b * per + per) pages) else pages
 
 -- The block of a page, and the page's place in it.
 abbrev pub split_of : ℕ → ℕ → BlockNumber × ℕ

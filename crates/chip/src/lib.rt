@@ -6,7 +6,7 @@
 #![tactic(auto)]
 
 ghost use Rattle.std.specs.Prelude.{◌≡◌, ℕ, List, length};
-ghost use Rattle.chip.specs.Pages.{Page, Shape, is_erased, fault_number, number, read_number, buffer_read, program_number, pages_programmed, erase_number, pages_erased, split_of};
+ghost use Rattle.chip.specs.Pages.{Page, Shape, is_erased, fault_number, block_answer, place_answer, read_answer, buffer_read, program_answer, pages_programmed, erase_answer, pages_erased, split_of};
 
 // A page of a chip, counted from its first.
 #[derive(Clone, Copy, Debug, PartialEq, Eq)]
@@ -84,23 +84,46 @@ pub trait Chip {
     fn size(&self) -> usize
         ensures { result ≡ blocks self.now };
 
+    // The block as an index below the number of blocks, if the chip has it.
+    fn block_index(&self, block: BlockNumber) -> Result<usize, ChipFault>
+        ensures { result ≡ block_answer (blocks self.now) block.0 }
+    {
+        let block = block.0 as usize;
+        if block >= self.size() {
+            return Err(ChipFault::OutOfRange);
+        }
+        Ok(block)
+    }
+
+    // The block of a page and its place there, for a call with so many bytes.
+    fn place_of(&self, page: PageNumber, length: usize) -> Result<(usize, usize), ChipFault>
+        ensures { result ≡ place_answer per (pages self.now) page.0 length }
+    {
+        let (block, place) = Self::split(page);
+        let block = self.block_index(block)?;
+        if length != PAGE_BYTES {
+            return Err(ChipFault::BufferLength);
+        }
+        Ok((block, place))
+    }
+
     // Copies a page into the buffer.
     fn read(&self, page: PageNumber, buffer: &mut [u8]) -> Result<(), ChipFault>
-        ensures answer { number result ≡ read_number (pages self.now) page.0 (length buffer.old) }
+        ensures answer { result ≡ read_answer (pages self.now) page.0 (length buffer.old) }
         ensures buffer { buffer.new ≡ buffer_read (pages self.now) page.0 buffer.old };
 
     // Makes an erased page hold the bytes.
     fn program(&mut self, page: PageNumber, bytes: &[u8]) -> Result<(), ChipFault>
         ensures kept { kept self.new ≡ kept self.old }
         ensures same { blocks self.new ≡ blocks self.old }
-        ensures answer { number result ≡ program_number (pages self.old) page.0 (length bytes.now) }
+        ensures answer { result ≡ program_answer (pages self.old) page.0 (length bytes.now) }
         ensures after { pages self.new ≡ pages_programmed (pages self.old) page.0 bytes.now };
 
     // Erases the pages of a block.
     fn erase(&mut self, block: BlockNumber) -> Result<(), ChipFault>
         ensures kept { kept self.new ≡ kept self.old }
         ensures same { blocks self.new ≡ blocks self.old }
-        ensures answer { number result ≡ erase_number (blocks self.old) block.0 }
+        ensures answer { result ≡ erase_answer (blocks self.old) block.0 }
         ensures after { pages self.new ≡ pages_erased per (blocks self.old) (pages self.old) block.0 };
 }
 
@@ -108,10 +131,5 @@ pub trait Chip {
 pub fn is_erased(bytes: &[u8]) -> bool
     ensures { result ≡ is_erased bytes.now }
 {
-    for b in bytes {
-        if *b != 0xFF {
-            return false;
-        }
-    }
-    true
+    bytes.iter().all(|b| *b == 0xFF)
 }

@@ -6,8 +6,9 @@ use lib.ListN.{length-replicate}
 use Rattle.std.proofs.lemmas.List.{drop-drop, take_at, drop_at, take-append-le, drop-append-le, set_split, length-take-le, take-replicate, drop-replicate, take-append-drop, take_all}
 use Rattle.std.proofs.lemmas.Slice.{drop-put_mid}
 use Rattle.chip.specs.Pages.{erased_page}
+use Rattle.chip.proofs.Ways.{Found}
 use Rattle.nand.specs.Image.{pages_of, nand_blocks, nand_pages}
-use Rattle.nand.specs.Shaped.{length_pages_of, blocks_fit}
+use Rattle.nand.specs.Shaped.{length_pages_of, length_nand, blocks_fit}
 
 pub get_or_pages_of : (n k : ℕ) (bs : List ℕ) → k < n → get_or (pages_of n bs) k [] ≡ take 528 (drop (k * 528) bs)
 get_or_pages_of zero k bs h = absurd (omega arith)
@@ -80,12 +81,6 @@ pub get_or_nand : (bs : List ℕ) (k : ℕ) → k < nand_blocks bs * 32 → get_
 unfolding nand_pages
 get_or_nand bs k h = get_or_pages_of (nand_blocks bs * 32) k bs h
 
--- The same, as the code cuts them out.
-pub read_nand : (bs : List ℕ) (k at : ℕ) → at ≡ k * 528 → k < nand_blocks bs * 32 → get_or (nand_pages bs) k [] ≡ take (at + 528 - at) (drop at bs)
-read_nand bs k at e h =
-    let n : 528 ≡ at + 528 - at = omega arith in
-    get_or_nand bs k h ∙ ap (λ i. take 528 (drop i bs)) (sym e) ∙ ap (λ m. take m (drop at bs)) n
-
 -- A write within the image leaves as many blocks.
 pub same_blocks : (a k : ℕ) (bs ys : List ℕ) → a + k ≤ length bs → length ys ≡ k → nand_blocks (put_mid a k bs ys) ≡ nand_blocks bs
 same_blocks a k bs ys h l =
@@ -100,13 +95,42 @@ pub kept_nand : (lent : GName) (a k : ℕ) (bs ys : List ℕ) → a + k ≤ nand
 kept_nand lent a k bs ys h l =
     ap (λ (n : ℕ). (lent, drop (n * 16896) (put_mid a k bs ys))) (same_blocks a k bs ys (omega (arith, blocks_fit bs)) l) ∙ ap (λ (z : List ℕ). (lent, z)) (rest_nand a k bs ys h l)
 
-pub set_nand : (bs ys : List ℕ) (k at : ℕ) → at ≡ k * 528 → k < nand_blocks bs * 32 → length ys ≡ 528 → nand_pages (put_mid at (at + 528 - at) bs ys) ≡ set (nand_pages bs) k ys
-unfolding nand_pages
-set_nand bs ys k at at-k h l =
-    let e : at + 528 - at ≡ 528 = omega arith in
-    let len : length (put_mid at 528 bs ys) ≡ length bs = simp (length-append, length-take, length-drop) (omega arith) in
-    let same : nand_blocks (put_mid at 528 bs ys) ≡ nand_blocks bs = ap (λ n. min 128 (n / 16896)) len in
-    ap (λ n. pages_of (nand_blocks (put_mid at n bs ys) * 32) (put_mid at n bs ys)) e ∙ ap (λ n. pages_of (n * 32) (put_mid at 528 bs ys)) same ∙ ap (λ i. pages_of (nand_blocks bs * 32) (put_mid i 528 bs ys)) at-k ∙ pages_of_set (nand_blocks bs * 32) k bs ys h (blocks_fit bs) l
+-- A page that was found, as the code cuts it out of the bytes.
+module _ (bs : List ℕ) {p n block place : ℕ} (found : Found 32 (nand_pages bs) p n block place) where
+  abbrev start : ℕ
+  start = block * 16896 + place * 528
+
+  pub place_nand : (start ≡ p * 528) × (p < nand_blocks bs * 32)
+  place_nand = (omega (arith, found.in_block, found.at), omega (arith, found.inside, length_nand bs))
+
+  pub part_nand : start + 528 ≤ length bs
+  part_nand = omega (arith, place_nand.0, place_nand.1, blocks_fit bs)
+
+  pub page_nand : get_or (nand_pages bs) p [] ≡ take 528 (drop start bs)
+  page_nand = get_or_nand bs p place_nand.1 ∙ ap (λ i. take 528 (drop i bs)) (sym place_nand.0)
+
+  pub read_nand : get_or (nand_pages bs) p [] ≡ take (start + 528 - start) (drop start bs)
+  read_nand =
+      let n : 528 ≡ start + 528 - start = omega arith in
+      page_nand ∙ ap (λ m. take m (drop start bs)) n
+
+  -- The page is written.
+  module _ (ys : List ℕ) (long : length ys ≡ 528) where
+    abbrev put : List ℕ
+    put = put_mid start (start + 528 - start) bs ys
+
+    pub same_page : nand_blocks put ≡ nand_blocks bs
+    same_page = same_blocks start (start + 528 - start) bs ys (omega (arith, part_nand)) (omega arith)
+
+    pub kept_page : (lent : GName) → ◌≡◌ {A = GName × List ℕ} (lent, drop (nand_blocks put * 16896) put) (lent, drop (nand_blocks bs * 16896) bs)
+    kept_page lent =
+        kept_nand lent start (start + 528 - start) bs ys (omega (arith, place_nand.0, place_nand.1)) (omega arith)
+
+    pub set_nand : nand_pages put ≡ set (nand_pages bs) p ys
+    unfolding nand_pages
+    set_nand =
+        let e : start + 528 - start ≡ 528 = omega arith in
+        ap (λ n. pages_of (n * 32) put) same_page ∙ ap (λ n. pages_of (nand_blocks bs * 32) (put_mid start n bs ys)) e ∙ ap (λ i. pages_of (nand_blocks bs * 32) (put_mid i 528 bs ys)) place_nand.0 ∙ pages_of_set (nand_blocks bs * 32) p bs ys place_nand.1 (blocks_fit bs) long
 
 -- A block of erased bytes written. (m is 32, as a variable: at the numeral, lists compute to all their elements.)
 pub erase_nand : (m : ℕ) (bs ys : List ℕ) (b a k : ℕ) → m ≡ 32 → a ≡ b * m * 528 → k ≡ m * 528 → b < nand_blocks bs → ys ≡ replicate k 255 → nand_pages (put_mid a k bs ys) ≡ take (b * m) (nand_pages bs) ++ (replicate m erased_page ++ drop (b * m + m) (nand_pages bs))

@@ -76,27 +76,15 @@ impl Chip for Nand<'_> {
     }
 
     fn read(&self, page: PageNumber, buffer: &mut [u8]) -> Result<(), ChipFault> {
-        let (block, place) = Self::split(page);
-        if block.0 as usize >= self.size() {
-            return Err(ChipFault::OutOfRange);
-        }
-        if buffer.len() != PAGE_BYTES {
-            return Err(ChipFault::BufferLength);
-        }
-        let at = block.0 as usize * BLOCK_BYTES + place * PAGE_BYTES;
+        let (block, place) = self.place_of(page, buffer.len())?;
+        let at = block * BLOCK_BYTES + place * PAGE_BYTES;
         buffer.copy_from_slice(&self.image[at..at + PAGE_BYTES]);
         Ok(())
     }
 
     fn program(&mut self, page: PageNumber, bytes: &[u8]) -> Result<(), ChipFault> {
-        let (block, place) = Self::split(page);
-        if block.0 as usize >= self.size() {
-            return Err(ChipFault::OutOfRange);
-        }
-        if bytes.len() != PAGE_BYTES {
-            return Err(ChipFault::BufferLength);
-        }
-        let at = block.0 as usize * BLOCK_BYTES + place * PAGE_BYTES;
+        let (block, place) = self.place_of(page, bytes.len())?;
+        let at = block * BLOCK_BYTES + place * PAGE_BYTES;
         if !self.is_erased_at(at) {
             return Err(ChipFault::NotErased);
         }
@@ -105,10 +93,7 @@ impl Chip for Nand<'_> {
     }
 
     fn erase(&mut self, block: BlockNumber) -> Result<(), ChipFault> {
-        let block = block.0 as usize;
-        if block >= self.size() {
-            return Err(ChipFault::OutOfRange);
-        }
+        let block = self.block_index(block)?;
         let at = block * BLOCK_BYTES;
         self.image[at..at + BLOCK_BYTES].fill(0xFF);
         Ok(())

@@ -10,8 +10,10 @@ use Rattle.std.proofs.lemmas.List.{get_or-set_same, get_or-set_other, drop-set-l
 use Rattle.std.proofs.lemmas.Slice.{drop-put_mid}
 use Rattle.std.proofs.lemmas.Bool.{cases_eq}
 use Rattle.chip.specs.Pages.{erased_page}
+use Rattle.chip.proofs.Ways.{Found}
 use Rattle.chip.proofs.Pagewise.{set_pagewise, erase_pagewise}
 use Rattle.nor.specs.Image.{page_byte, nor_blocks, nor_page, nor_pages, word_at}
+use Rattle.nor.specs.At.{IsPage}
 use Rattle.nor.specs.Program.{pair_of, anded, programmed}
 use Rattle.nor.specs.Shaped.{length_nor}
 use Rattle.nor.proofs.Places.{word_below, word_apart}
@@ -20,6 +22,18 @@ use Rattle.nor.proofs.Words.{word_of, word_of_lem, low_byte, high_byte, by_pairs
 pub get_or_nor : (ws : List ℕ) (n : ℕ) → n < nor_blocks ws * 8 → get_or (nor_pages ws) n [] ≡ nor_page ws n
 unfolding nor_pages
 get_or_nor ws n h = get_or-map-range_with_len (nor_page ws) 0 (nor_blocks ws * 8) n n [] h (omega arith)
+
+-- A page that was found is there.
+pub is_page : (ws : List ℕ) {n bytes block place : ℕ} → Found 8 (nor_pages ws) n bytes block place → IsPage ws n bytes block place
+is_page ws {n} {bytes} {block} {place} f =
+    let whole : block * 8 + place ≡ n = omega (arith, f.in_block, f.at) in
+    record {
+      is = whole;
+      in_block = omega (arith, f.inside, f.in_block, length_nor ws);
+      exists = f.inside;
+      whole = f.whole;
+      holds = get_or_nor ws n (omega (arith, f.inside, length_nor ws)) ∙ ap (nor_page ws) (sym whole);
+    }
 
 pub same_blocks : (ws vs : List ℕ) → length vs ≡ length ws → nor_blocks vs ≡ nor_blocks ws
 same_blocks ws vs e = ap (λ n. min 512 (n / 2112)) e

@@ -1,3 +1,4 @@
 pub mod Image
+pub mod At
 pub mod Shaped
 pub mod Program

@@ -1,10 +1,11 @@
 // A NOR chip over lent 16-bit words: 8 pages to a block, the low byte of a word first.
 #![tactic(auto)]
 
-ghost use Rattle.std.specs.Prelude.{◌≡◌, ℕ, ◌+◌, ◌*◌, ◌<◌, true, List, length, drop, slice_index};
+ghost use Rattle.std.specs.Prelude.{◌≡◌, ℕ, ◌+◌, ◌*◌, ◌<◌, true, List, length, drop, slice_index, MatchResult};
 ghost use Rattle.std.specs.Borrow.{GName};
-ghost use Rattle.chip.specs.Pages.{is_erased};
+ghost use Rattle.chip.specs.Pages.{is_erased, place_answer};
 ghost use Rattle.nor.specs.Image.{offset_of, word_at, nor_blocks, nor_page, nor_pages};
+ghost use Rattle.nor.specs.At.{IsPage};
 ghost use Rattle.nor.specs.Program.{programmed};
 ghost use Rattle.nor.specs.Shaped.{nor_shape};
 
@@ -42,62 +43,76 @@ impl<'a> Nor<'a> {
     }
 }
 
-// Where a byte of the page at a place lies in its block: eight data areas, then eight tags.
-fn offset_in_block(place: usize, byte: usize) -> usize
-    requires { (place < 8) × (byte < 528) }
-    ensures { result ≡ offset_of place byte }
-{
-    if byte < 512 {
-        place * 512 + byte
-    } else {
-        4096 + place * 16 + (byte - 512)
+// A page by its block and its place there.
+#[derive(Clone, Copy)]
+struct PageAt {
+    block: usize,
+    place: usize,
+    ghost on_chip: { block < 512 },
+    ghost placed: { place < 8 },
+}
+
+impl PageAt {
+    // Where a byte of the page lies in its block: eight data areas, then eight tags.
+    fn offset_in_block(self, byte: usize) -> usize
+        requires { byte < 528 }
+        ensures { result ≡ offset_of self.place byte }
+    {
+        if byte < 512 {
+            self.place * 512 + byte
+        } else {
+            4096 + self.place * 16 + (byte - 512)
+        }
     }
-}
 
-// The word of the image that holds the i-th pair of bytes of a page.
-fn word_at(block: usize, place: usize, i: usize) -> usize
-    requires { (block < 512) × ((place < 8) × (i < 264)) }
-    ensures { result ≡ word_at block place i }
-{
-    block * BLOCK_WORDS + offset_in_block(place, 2 * i) / 2
-}
+    // The word of the image that holds the i-th pair of bytes of the page.
+    fn word(self, i: usize) -> usize
+        requires { i < 264 }
+        ensures { result ≡ word_at self.block self.place i }
+    {
+        self.block * BLOCK_WORDS + self.offset_in_block(2 * i) / 2
+    }
 
-// ANDs the bytes into the words of a page.
-fn and_page(image: &mut [u16], block: usize, place: usize, bytes: &[u8])
-    requires { (block < nor_blocks image.old) × ((place < 8) × (length bytes.now ≡ 528)) }
-    ensures { image.new ≡ programmed image.old block place bytes.now }
-{
-    for i in 0..PAGE_WORDS {
-        let pair = u16::from_le_bytes([bytes[2 * i], bytes[2 * i + 1]]);
-        image[word_at(block, place, i)] &= pair;
+    // ANDs the bytes into the words of the page.
+    fn and_bytes(self, image: &mut [u16], bytes: &[u8])
+        requires { (self.block < nor_blocks image.old) × (length bytes.now ≡ 528) }
+        ensures { image.new ≡ programmed image.old self.block self.place bytes.now }
+    {
+        for (i, pair) in bytes.chunks_exact(2).enumerate() {
+            image[self.word(i)] &= u16::from_le_bytes([pair[0], pair[1]]);
+        }
     }
 }
 
 impl Nor<'_> {
-    // Copies the page at a place of a block into the buffer.
-    fn copy_page(&self, block: usize, place: usize, buffer: &mut [u8])
-        requires { (block < nor_blocks self.now.image.now) × ((place < 8) × (length buffer.old ≡ 528)) }
-        ensures { buffer.new ≡ nor_page self.now.image.now (block * 8 + place) }
+    // Where a page lies, for a call with so many bytes.
+    fn page_at(&self, page: PageNumber, length: usize) -> Result<PageAt, ChipFault>
+        ensures { MatchResult result (λ at. IsPage self.now.image.now page.0 length at.block at.place) (λ fault. place_answer 8 (nor_pages self.now.image.now) page.0 length ≡ Err fault) }
     {
+        let (block, place) = self.place_of(page, length)?;
+        Ok(PageAt { block, place })
+    }
+
+    // Copies a page into the buffer.
+    fn copy_page(&self, page: PageAt, buffer: &mut [u8])
+        requires { (page.block < nor_blocks self.now.image.now) × (length buffer.old ≡ 528) }
+        ensures { buffer.new ≡ nor_page self.now.image.now (page.block * 8 + page.place) }
+    {
+        // By index: after a write through `chunks_exact_mut` a proof knows no byte of the buffer.
         for i in 0..PAGE_WORDS {
-            let [low, high] = self.image[word_at(block, place, i)].to_le_bytes();
+            let [low, high] = self.image[page.word(i)].to_le_bytes();
             buffer[2 * i] = low;
             buffer[2 * i + 1] = high;
         }
     }
 
-    // Whether the page at a place of a block is erased.
-    fn is_page_erased(&self, block: usize, place: usize) -> bool
-        requires { (block < nor_blocks self.now.image.now) × (place < 8) }
-        ensures answer { result ≡ is_erased (nor_page self.now.image.now (block * 8 + place)) }
-        ensures ones { result ≡ true → (i : ℕ) → i < 264 → slice_index self.now.image.now (word_at block place i) ≡ 65535 }
+    // Whether a page is erased.
+    fn is_page_erased(&self, page: PageAt) -> bool
+        requires { page.block < nor_blocks self.now.image.now }
+        ensures answer { result ≡ is_erased (nor_page self.now.image.now (page.block * 8 + page.place)) }
+        ensures ones { result ≡ true → (i : ℕ) → i < 264 → slice_index self.now.image.now (word_at page.block page.place i) ≡ 65535 }
     {
-        for i in 0..PAGE_WORDS {
-            if self.image[word_at(block, place, i)] != 0xFFFF {
-                return false;
-            }
-        }
-        true
+        (0..PAGE_WORDS).all(|i| self.image[page.word(i)] == 0xFFFF)
     }
 }
 
@@ -128,37 +143,22 @@ impl Chip for Nor<'_> {
     }
 
     fn read(&self, page: PageNumber, buffer: &mut [u8]) -> Result<(), ChipFault> {
-        let (block, place) = Self::split(page);
-        if block.0 as usize >= self.size() {
-            return Err(ChipFault::OutOfRange);
-        }
-        if buffer.len() != PAGE_BYTES {
-            return Err(ChipFault::BufferLength);
-        }
-        self.copy_page(block.0 as usize, place, buffer);
+        let page = self.page_at(page, buffer.len())?;
+        self.copy_page(page, buffer);
         Ok(())
     }
 
     fn program(&mut self, page: PageNumber, bytes: &[u8]) -> Result<(), ChipFault> {
-        let (block, place) = Self::split(page);
-        if block.0 as usize >= self.size() {
-            return Err(ChipFault::OutOfRange);
-        }
-        if bytes.len() != PAGE_BYTES {
-            return Err(ChipFault::BufferLength);
-        }
-        if !self.is_page_erased(block.0 as usize, place) {
+        let page = self.page_at(page, bytes.len())?;
+        if !self.is_page_erased(page) {
             return Err(ChipFault::NotErased);
         }
-        and_page(self.image, block.0 as usize, place, bytes);
+        page.and_bytes(self.image, bytes);
         Ok(())
     }
 
     fn erase(&mut self, block: BlockNumber) -> Result<(), ChipFault> {
-        let block = block.0 as usize;
-        if block >= self.size() {
-            return Err(ChipFault::OutOfRange);
-        }
+        let block = self.block_index(block)?;
         let at = block * BLOCK_WORDS;
         self.image[at..at + BLOCK_WORDS].fill(0xFFFF);
         Ok(())

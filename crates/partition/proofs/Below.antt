@@ -1,12 +1,12 @@
 -- What a call on the chip below does to a part of its pages, and to those outside.
-use Rattle.std.proofs.Common.{◌≡◌, ℕ, ◌+◌, ◌-◌, ◌*◌, ◌/◌, ◌%◌, ◌<◌, ◌≤◌, min, eqb, ltb, List, [], ◌++◌, length, get_or, take, drop, set, replicate, sym, refl, ap, ◌∙◌, ⊎_elim, mul-le-mul_right, add-mul, arith, length-drop, length-take, rules}
+use Rattle.std.proofs.Common.{◌≡◌, ℕ, ◌+◌, ◌-◌, ◌*◌, ◌/◌, ◌%◌, ◌<◌, ◌≤◌, min, is_ok, ltb, List, [], ◌++◌, length, get_or, take, drop, set, replicate, sym, refl, ap, ◌∙◌, ⊎_elim, mul-le-mul_right, add-mul, arith, length-drop, length-take, rules}
 use lib.ListN.{length-replicate}
 use lib.Seq.{take-set-lt}
 use Rattle.std.proofs.lemmas.Nat.{div-add-mod', mod_below}
 use Rattle.std.proofs.lemmas.List.{get_or-take, get_or-drop, take-set-le, drop-set-lt, drop-set-add, same_lists, places}
 use Rattle.std.proofs.lemmas.Bool.{lt-ltb, le-ltb, cases_lt, cond_both}
 use Rattle.std.proofs.lemmas.Bool.Decides.{nat_tests}
-use Rattle.chip.specs.Pages.{Page, program_number, pages_programmed, pages_erased, erased_page}
+use Rattle.chip.specs.Pages.{Page, program_answer, pages_programmed, pages_erased, erased_page}
 use Rattle.partition.specs.Part.{existing, Changed, PageBelow, BlockBelow}
 use Rattle.partition.specs.Shaped.{existing_pages}
 
@@ -41,8 +41,8 @@ module _ (m n : ℕ) (l : List Page) where
 
     program_page : (bytes : List ℕ) → Changed m n l (pages_programmed l at bytes) (pages_programmed (part l) p bytes)
     program_page bytes =
-        let number : program_number l at (length bytes) ≡ program_number (part l) p (length bytes) = rw (same_test, same_page) refl in
-        cond_both (eqb (program_number l at (length bytes)) 0) (set l at bytes) l (λ z. Changed m n l z (pages_programmed (part l) p bytes)) (λ t. rw (← number, t) (set_page bytes)) (λ t. rw (← number, t) unchanged)
+        let answer : program_answer l at (length bytes) ≡ program_answer (part l) p (length bytes) = rw (same_test, same_page) refl in
+        cond_both (is_ok (program_answer l at (length bytes))) (set l at bytes) l (λ z. Changed m n l z (pages_programmed (part l) p bytes)) (λ t. rw (← answer, t) (set_page bytes)) (λ t. rw (← answer, t) unchanged)
 
     pub page_below : PageBelow m n l p at
     page_below = record { is = e; exists = same_test; holds = same_page; programmed = program_page }

@@ -19,9 +19,10 @@ module _ (rows : List Row) (i : ℕ) (h : i < tiny_blocks rows * 2) (row : Row) 
   written =
       rw (same_blocks, map-set row_bytes rows i row) (take-set-lt (tiny_blocks rows * 2) (map row_bytes rows) i row.bytes h)
 
-pub page_row : (rows : List Row) (p : ℕ) → p < tiny_blocks rows * 2 → PageRow rows p p
-page_row rows p h = record {
+pub page_row : (rows : List Row) (p n : ℕ) → p < tiny_blocks rows * 2 → n ≡ 528 → PageRow rows p n p
+page_row rows p n h whole = record {
   is = refl;
+  whole = whole;
   exists = rw length_pages h;
   within = omega arith;
   holds = get_or-take (tiny_blocks rows * 2) (map row_bytes rows) p [] h;

@@ -19,9 +19,10 @@ tiny_pages rows = take (tiny_blocks rows * 2) (map row_bytes rows)
 abbrev pub spare_rows : List Row → List Row
 spare_rows rows = drop (tiny_blocks rows * 2) rows
 
--- Row i is page p: to write the row is to program the page.
-pub record PageRow (rows : List Row) (p i : ℕ) : Type 0 where
+-- Row i is page p, for a call with n bytes: to write the row is to program the page.
+pub record PageRow (rows : List Row) (p n i : ℕ) : Type 0 where
   pub is : i ≡ p
+  pub whole : n ≡ 528
   pub exists : p < length (tiny_pages rows)
   pub within : i < length rows
   pub holds : get_or (tiny_pages rows) p [] ≡ slice_index_or (map row_bytes rows) i []
@@ -37,7 +38,3 @@ pub record BlockRows (rows : List Row) (b i : ℕ) : Type 0 where
   pub blocks : (row next : Row) → tiny_blocks (slice_set (slice_set rows i row) (i + 1) next) ≡ tiny_blocks rows
   pub spare : (row next : Row) → spare_rows (slice_set (slice_set rows i row) (i + 1) next) ≡ spare_rows rows
   pub written : (row next : Row) → row.bytes ≡ erased_page → next.bytes ≡ erased_page → tiny_pages (slice_set (slice_set rows i row) (i + 1) next) ≡ pages_erased 2 (tiny_blocks rows) (tiny_pages rows) b
-
--- The refusal of page or block i of n, if there is none.
-abbrev pub Lacking : ℕ → ℕ → ChipFault → Type 0
-Lacking n i fault = (n ≤ i) × (fault ≡ OutOfRange)

@@ -1,8 +1,9 @@
 // A chip of two pages to a block, over lent rows: as many blocks as there are pairs of rows.
 ghost use Rattle.std.specs.Prelude.{◌≡◌, ◌<◌, List, [], map, length, MatchResult, slice_index_or};
 ghost use Rattle.std.specs.Borrow.{GName};
+ghost use Rattle.chip.specs.Pages.{block_answer, place_answer};
 ghost use Rattle.test_chips.specs.declared.row.Row.{Row};
-ghost use Rattle.test_chips.specs.Rows.{row_bytes, tiny_blocks, tiny_pages, spare_rows, PageRow, BlockRows, Lacking};
+ghost use Rattle.test_chips.specs.Rows.{row_bytes, tiny_blocks, tiny_pages, spare_rows, PageRow, BlockRows};
 ghost use Rattle.test_chips.specs.Shaped.{tiny_shape};
 
 use crate::row::Row;
@@ -32,25 +33,19 @@ impl<'a> Tiny<'a> {
 }
 
 impl Tiny<'_> {
-    // The row of a page.
-    fn row_of(&self, page: PageNumber) -> Result<usize, ChipFault>
-        ensures { MatchResult result (PageRow self.now.rows.now page.0) (Lacking (length (tiny_pages self.now.rows.now)) page.0) }
+    // The row of a page, for a call with so many bytes.
+    fn row_of(&self, page: PageNumber, length: usize) -> Result<usize, ChipFault>
+        ensures { MatchResult result (PageRow self.now.rows.now page.0 length) (λ fault. place_answer 2 (tiny_pages self.now.rows.now) page.0 length ≡ Err fault) }
     {
-        let page = page.0 as usize;
-        if page >= self.size() * 2 {
-            return Err(ChipFault::OutOfRange);
-        }
-        Ok(page)
+        let (block, place) = self.place_of(page, length)?;
+        Ok(block * 2 + place)
     }
 
     // The first of the two rows of a block.
     fn rows_of(&self, block: BlockNumber) -> Result<usize, ChipFault>
-        ensures { MatchResult result (BlockRows self.now.rows.now block.0) (Lacking (tiny_blocks self.now.rows.now) block.0) }
+        ensures { MatchResult result (BlockRows self.now.rows.now block.0) (λ fault. block_answer (tiny_blocks self.now.rows.now) block.0 ≡ Err fault) }
     {
-        let block = block.0 as usize;
-        if block >= self.size() {
-            return Err(ChipFault::OutOfRange);
-        }
+        let block = self.block_index(block)?;
         Ok(block * 2)
     }
 
@@ -90,19 +85,13 @@ impl Chip for Tiny<'_> {
     }
 
     fn read(&self, page: PageNumber, buffer: &mut [u8]) -> Result<(), ChipFault> {
-        let row = self.row_of(page)?;
-        if buffer.len() != PAGE_BYTES {
-            return Err(ChipFault::BufferLength);
-        }
+        let row = self.row_of(page, buffer.len())?;
         buffer.copy_from_slice(&self.bytes_at(row));
         Ok(())
     }
 
     fn program(&mut self, page: PageNumber, bytes: &[u8]) -> Result<(), ChipFault> {
-        let row = self.row_of(page)?;
-        if bytes.len() != PAGE_BYTES {
-            return Err(ChipFault::BufferLength);
-        }
+        let row = self.row_of(page, bytes.len())?;
         if !is_erased(&self.bytes_at(row)) {
             return Err(ChipFault::NotErased);
         }

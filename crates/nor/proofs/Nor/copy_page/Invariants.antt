@@ -3,4 +3,4 @@ use Rattle.nor.specs.Image.{page_byte}
 use Rattle.nor.proofs.Nor.copy_page.Given as goal
 
 abbrev pub invariant-loop-i : goal.invariant-loop-i
-invariant-loop-i l = (length l.buffer ≡ 528) × ((k : ℕ) → k < 2 * l.i → get_or l.buffer k 0 ≡ page_byte l.self.image.now (l.block * 8 + l.place) k)
+invariant-loop-i l = (length l.buffer ≡ 528) × ((k : ℕ) → k < 2 * l.i → get_or l.buffer k 0 ≡ page_byte l.self.image.now (l.page.block * 8 + l.page.place) k)

@@ -1,21 +1,14 @@
-use Rattle.std.proofs.Common.{◌≡◌, ◌+◌, ◌*◌, ◌<◌, get_or, sym, ap, ◌∙◌, arith}
-use Rattle.std.proofs.lemmas.Bool.{false≢true}
-use Rattle.nor.proofs.Words.{word_of, word_of_lem, other_word, ones_erased}
+use Rattle.std.proofs.Common.{rules, tests, ◌≡◌, ℕ, ◌<◌, get_or, refl}
+use Rattle.std.proofs.lemmas.Iterator.{cases_from_all, YieldsList-from_range}
+use Rattle.nor.specs.Image.{word_at}
+use Rattle.nor.proofs.Words.{Asked, asked_ones, asked_erased}
 use Rattle.nor.proofs.Nor.is_page_erased.Goals as goal
-
-pub returns-then-self-word_at : goal.returns-then-self-word_at
-returns-then-self-word_at c =
-    let ws = c.args.self.now.image.now in
-    let b = c.args.block in
-    let p = c.args.place in
-    let i = c.loop-i.i in
-    let w : word_of (b * 8 + p) i ≡ c.word_at.result = word_of_lem b p i c.requires.1 ∙ sym c.word_at.ensures in
-    let small : get_or ws c.word_at.result 0 < 65536 = omega arith in
-    record { answer = other_word ws (b * 8 + p) i c.loop-i-test.true (rw w small) (λ e. c.if-self-word_at.true (ap (λ k. get_or ws k 0) (sym w) ∙ e)); ones = λ t. absurd (false≢true t) }
 
 pub returns : goal.returns
 returns c =
     let ws = c.args.self.now.image.now in
-    let b = c.args.block in
-    let p = c.args.place in
-    record { answer = sym (ones_erased ws (b * 8 + p) (λ i h. ap (λ k. get_or ws k 0) (word_of_lem b p i c.requires.1) ∙ c.loop-i.invariant i (omega arith))); ones = λ _ i h. c.loop-i.invariant i (omega arith) }
+    let b = c.args.page.block in
+    let p = c.args.page.place in
+    let w : ℕ → ℕ = λ i. get_or ws (word_at b p i) 0 in
+    let asked : Asked ws b p 264 refl c.args.page.placed c.all.result = cases_from_all _ _ _ (λ i. w i ≡ 65535) (λ i. (w i ≡ 65535 → ⊥) × (w i < 65536)) c.all.ensures.ran (YieldsList-from_range 0 264 264 refl refl) (λ x q k. search (rules, tests)) (λ x q k. search (rules, tests)) in
+    record { answer = asked_erased ws b p 264 refl c.args.page.placed _ asked; ones = asked_ones ws b p 264 refl c.args.page.placed _ asked }

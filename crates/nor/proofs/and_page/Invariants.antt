@@ -1,6 +1,0 @@
-use Rattle.std.proofs.Common.{◌≡◌}
-use Rattle.nor.specs.Program.{anded}
-use Rattle.nor.proofs.and_page.Given as goal
-
-abbrev pub invariant-loop-i : goal.invariant-loop-i
-invariant-loop-i l = l.image ≡ anded l.initial.image l.block l.place l.bytes l.i
