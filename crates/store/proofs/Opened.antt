@@ -1,5 +1,5 @@
 -- What a call makes of an open store, which is sound by its type. (That it is sound tells only that there is a proof: each goal here has at most one.)
-use Rattle.std.proofs.Common.{true, ◌≡◌, ℕ, ◌-◌, List, [], ◌∷◌, Some, Option, Result, Ok, Err, MatchResult, MutBor,  refl, sym, ap, ◌∙◌, subst, arith}
+use Rattle.std.proofs.Common.{true, ◌≡◌, ℕ, ◌-◌, List, [], ◌∷◌, Some, Option, Result, Ok, Err, MatchResult, MutBor, refl, sym, ap, ◌∙◌, subst, arith}
 use Rattle.std.proofs.Math.Logic.{∥∥₁_elim, ∥∥₁_map}
 use Rattle.std.proofs.lemmas.Grind.{merely}
 use Rattle.std.proofs.Props.{props}
@@ -7,7 +7,7 @@ use Rattle.std.proofs.lemmas.Bool.{both_ways}
 use Rattle.std.specs.Result.{IsOkAnd}
 use Rattle.std.specs.Option.{is_some, ForSome, option_copied_mut}
 use Rattle.chip.specs.Pages.{Page}
-use Rattle.rules.specs.Calls.{Call, Answer, granted, rule}
+use Rattle.rules.specs.Calls.{Call, freeze, open_slip, Answer, granted, rule}
 use Rattle.rules.specs.Told.{told, tick_value}
 use Rattle.rules.specs.declared.types.Tick.{Tick}
 use Rattle.refusals.specs.declared.types.Refusal.{Refusal}
@@ -82,3 +82,18 @@ asks_at c blocks per pages ix a sound tells = record {
 
 -- What `grind` is given at the calls.
 pub ruleset calls_at = (asks_at, changes_at, cleans_at)
+
+-- An open answers as a freeze does.
+pub opens : (v w : View) (a : Answer) → Changes freeze v a w → Changes open_slip v a w
+unfolding rule
+opens v w a d = record {
+  closed = d.closed;
+  open? = λ o. let f = d.open? o in record {
+    answer = f.answer;
+    reads = f.reads;
+    refusal = f.refusal;
+    sound = f.sound;
+    stays_open = f.stays_open;
+    same_size = f.same_size;
+  };
+}

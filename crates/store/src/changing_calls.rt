@@ -64,8 +64,7 @@ impl<C: Chip> Store<C> {
         ensures kept { C.Chip.kept self.new.chip ≡ C.Chip.kept self.old.chip }
         ensures does { Changes open_slip (seen self.old) (told slip_value [] result) (seen self.new) }
     {
-        let index = self.index.as_mut().ok_or(Refusal::StoreClosed)?;
-        calls::freeze(&mut self.chip, index).map(|number| Slip { number })
+        self.freeze().map(|number| Slip { number })
     }
 
     // Spends a slip: its state is held no more.
