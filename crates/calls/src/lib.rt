@@ -8,5 +8,5 @@ mod opening;
 mod queries;
 
 pub use changes::{back, clean, delete, freeze, release, revert, write};
-pub use opening::{format, mount, no_index};
+pub use opening::{format, mount};
 pub use queries::{count, held, label, look, read, since, since_in};

@@ -1,2 +1,3 @@
 pub mod Queries
 pub mod Lawful
+pub mod Premise

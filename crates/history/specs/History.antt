@@ -5,7 +5,7 @@ use Rattle.line.specs.Cases.{Cases}
 use Rattle.line.specs.Equation.{Equation}
 use Rattle.line.specs.Line.{Event}
 use Rattle.line.specs.Law.{Lawful}
-use Rattle.store.specs.Views.{View, reading_of, capacity_of}
+use Rattle.store.specs.Views.{View, is_open, reading_of, capacity_of}
 use Rattle.store.specs.Deeds.{refused_with, format_answer, Formatted, Does}
 
 -- A list of events since a granted format with this label, latest first, that leads to the store w. Each call did what its contract says, on any chip; between them the store was in some state that these contracts allow.
@@ -25,4 +25,4 @@ EveryRevertIsTheEquation =
 -- The worked cases, and a format on a chip of one block, whatever its pages.
 abbrev pub EveryWorkedCaseHolds : Type 0
 EveryWorkedCaseHolds =
-    Cases × ((label : List ℕ) (v : View) → v.blocks ≡ 1 → v.is_open ≡ false → format_answer label v ≡ refused_with 3 [])
+    Cases × ((label : List ℕ) (v : View) → v.blocks ≡ 1 → is_open v ≡ false → format_answer label v ≡ refused_with 3 [])

@@ -6,24 +6,18 @@ ghost use Rattle.history.specs.History.{EveryHistoryIsLawful, EveryRevertIsTheEq
 
 // Whatever calls are made on a store since a format, on any chip, in any order: their answers are
 // lawful.
-pub fn every_history_is_lawful() -> u8
+pub fn every_history_is_lawful()
     ensures { EveryHistoryIsLawful }
-{
-    0
-}
+{}
 
 // On every store that calls can lead to, a revert or back to a held number leaves the present state
 // (S ∪ Domain(U)) − Range(U).
-pub fn every_revert_is_the_equation() -> u8
+pub fn every_revert_is_the_equation()
     ensures { EveryRevertIsTheEquation }
-{
-    0
-}
+{}
 
 // Short lists of calls with their answers, capacities of small chips, and a chip too small for a
 // format.
-pub fn every_worked_case_holds() -> u8
+pub fn every_worked_case_holds()
     ensures { EveryWorkedCaseHolds }
-{
-    0
-}
+{}

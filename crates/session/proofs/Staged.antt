@@ -6,7 +6,7 @@ use Rattle.std.proofs.lemmas.List.{map_push, length-map, append_assoc, nil_from_
 use Rattle.std.proofs.lemmas.Bool.{cases_eq, true≢false}
 use Rattle.rules.specs.Calls.{Call, mount, close, count, clean, freeze, open_slip, write, delete, read, look, since, since_in, ask_held, ask_label, release, revert, keep_slip, back_slip, Answer}
 use Rattle.line.specs.Line.{Event, first_or}
-use Rattle.store.specs.Views.{View, Sound}
+use Rattle.store.specs.Views.{View, is_open, Sound}
 use Rattle.store.specs.Deeds.{Changes, Cleans, Closes, Mounts, Does}
 use Rattle.store.specs.declared.slips.Slip.{Slip}
 use Rattle.session.specs.declared.blank.Blank.{Blank}
@@ -20,37 +20,36 @@ use Rattle.session.specs.Stages.{Stage, Goes}
 use Rattle.session.proofs.Blanked.{opens_push}
 use Rattle.session.proofs.Piles.{has_none, first_at}
 use Rattle.session.proofs.Spent.{kept}
-use Rattle.history.proofs.Lawful.{sound_again}
 
 -- An open store stays sound, and the chip as large as it was.
 record Kept (v w : View) : Type 0 where
-  sound : w.is_open ≡ true → Sound w
+  sound : is_open w ≡ true → Sound w
   blocks : w.blocks ≡ v.blocks
 
 abbrev Good : View → Type 0
-Good v = v.is_open ≡ true → Sound v
+Good v = is_open v ≡ true → Sound v
 
 kept_same : (v w : View) → Good v → w ≡ v → Kept v w
 kept_same v w g e = subst (λ (z : View). Kept v z) (sym e) (record { sound = g; blocks = refl })
 
 changes_kept : (c : Call) (v w : View) (a : Answer) → Good v → Changes c v a w → Kept v w
-changes_kept c v w a g d = go v.is_open refl
+changes_kept c v w a g d = go (is_open v) refl
   where
-    go : (b : Bool) → v.is_open ≡ b → Kept v w
-    go true o = let f = d.open? o (g o) in record { sound = λ _. sound_again v w f.same_size f.followed.opened; blocks = f.same_size.blocks }
+    go : (b : Bool) → is_open v ≡ b → Kept v w
+    go true o = let f = d.open? o in record { sound = λ _. f.sound; blocks = f.same_size.blocks }
     go false o = kept_same v w g (d.closed o).1
 
 cleans_kept : (v w : View) (a : Answer) → Good v → Cleans v a w → Kept v w
-cleans_kept v w a g d = go v.is_open refl
+cleans_kept v w a g d = go (is_open v) refl
   where
-    go : (b : Bool) → v.is_open ≡ b → Kept v w
-    go true o = let f = d.open? o (g o) in record { sound = λ _. sound_again v w f.same_size f.cleaned.opened; blocks = f.same_size.blocks }
+    go : (b : Bool) → is_open v ≡ b → Kept v w
+    go true o = let f = d.open? o in record { sound = λ _. f.sound; blocks = f.same_size.blocks }
     go false o = kept_same v w g (d.closed o).1
 
 closes_kept : (v w : View) (a : Answer) → Good v → Closes v a w → Kept v w
-closes_kept v w a g d = go v.is_open refl
+closes_kept v w a g d = go (is_open v) refl
   where
-    go : (b : Bool) → v.is_open ≡ b → Kept v w
+    go : (b : Bool) → is_open v ≡ b → Kept v w
     go true o = let f = d.open? o in record { sound = λ e. absurd (true≢false (sym e ∙ f.2)); blocks = f.1.same_size.blocks }
     go false o = kept_same v w g (d.closed o).1
 

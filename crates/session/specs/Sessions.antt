@@ -7,7 +7,7 @@ use Rattle.rules.specs.Calls.{Call, keep_slip, Answer}
 use Rattle.rules.specs.Told.{refused_by}
 use Rattle.line.specs.Line.{Event}
 use Rattle.line.specs.Law.{Lawful}
-use Rattle.store.specs.Views.{View}
+use Rattle.store.specs.Views.{View, is_open}
 use Rattle.store.specs.Deeds.{format_answer}
 use Rattle.history.specs.History.{History}
 use Rattle.refusals.specs.declared.types.Refusal.{Refusal}
@@ -44,7 +44,7 @@ pub record Ran (label : List ℕ) (requests : List Request) (es : List Event) (b
 -- Why a closed store on such a chip can't be formatted with this label.
 abbrev pub Unformatted : List ℕ → ℕ → ℕ → Refusal → Type 0
 Unformatted label blocks per f =
-    (v : View) → v.is_open ≡ false → v.blocks ≡ blocks → v.per ≡ per → refused_by f [] ≡ format_answer label v
+    (v : View) → is_open v ≡ false → v.blocks ≡ blocks → v.per ≡ per → refused_by f [] ≡ format_answer label v
 
 -- How a session ended, by the pages before it and after it. Without memory or a format it changes nothing.
 abbrev pub Ended : List ℕ → List Request → ℕ → ℕ → List Page → List Page → Result (Vec Made Global) Halt → Type 0

@@ -2,7 +2,7 @@
 use Rattle.std.specs.Prelude.{◌≡◌, ℕ, true, List, ◌++◌}
 use Rattle.rules.specs.Calls.{Call}
 use Rattle.line.specs.Line.{Event}
-use Rattle.store.specs.Views.{View, Sound}
+use Rattle.store.specs.Views.{View, is_open, Sound}
 use Rattle.history.specs.History.{History}
 use Rattle.session.specs.Slips.{slips_after}
 use Rattle.session.specs.Sessions.{Followed}
@@ -12,7 +12,7 @@ pub record Stage (label : List ℕ) (blocks : ℕ) (cs : List Call) (es : List E
   pub history : History label es v
   pub followed : Followed cs es
   pub slips : ns ≡ slips_after es
-  pub sound : v.is_open ≡ true → Sound v
+  pub sound : is_open v ≡ true → Sound v
   pub blocks_are : v.blocks ≡ blocks
 
 -- Whatever led to es, v and ns: the calls `more` led on to fs, w and ms.

@@ -25,7 +25,7 @@ pub(crate) fn perform<C: Chip>(
     requires numbers { numbers.old ≡ numbers_of request }
     ensures kept { C.Chip.kept store.new.chip ≡ C.Chip.kept store.old.chip }
     ensures capacity { vec_capacity slips.new ≡ vec_capacity slips.old }
-    ensures turn { Turn (call_of request.entry) (seen C.Chip.blocks C.Chip.per C.Chip.pages store.old) (slip_numbers slips.old.items) (bytes.new ++ numbers.new) result (seen C.Chip.blocks C.Chip.per C.Chip.pages store.new) (slip_numbers slips.new.items) }
+    ensures turn { Turn (call_of request.entry) (seen store.old) (slip_numbers slips.old.items) (bytes.new ++ numbers.new) result (seen store.new) (slip_numbers slips.new.items) }
 {
     match request {
         Request::Mount => Some(tell_tick(store.mount())),

@@ -21,7 +21,7 @@ pub(crate) fn keep_leftovers<'a, C: Chip>(
 )
     requires { vec_len done.old + vec_len slips ≤ vec_capacity done.old }
     ensures kept { C.Chip.kept store.new.chip ≡ C.Chip.kept store.old.chip }
-    ensures goes { (late : List ℕ) × Goes (map keep_slip late) (events_of done.old.items) (seen C.Chip.blocks C.Chip.per C.Chip.pages store.old) (slip_numbers slips.items) (events_of done.new.items) (seen C.Chip.blocks C.Chip.per C.Chip.pages store.new) [] }
+    ensures goes { (late : List ℕ) × Goes (map keep_slip late) (events_of done.old.items) (seen store.old) (slip_numbers slips.items) (events_of done.new.items) (seen store.new) [] }
 {
     while !slips.is_empty() {
         let slip = slips.remove(0);

@@ -28,7 +28,7 @@ fn make_call<'a, C: Chip>(
     ensures capacity { vec_capacity done.new ≡ vec_capacity done.old }
     ensures slip_bound { vec_len slips.new ≤ vec_len slips.old + opens_by (blank_call blank.entry) }
     ensures bound { vec_len done.new ≤ vec_len done.old + 1 }
-    ensures goes { Goes (blank_call blank.entry ∷ []) (events_of done.old.items) (seen C.Chip.blocks C.Chip.per C.Chip.pages store.old) (slip_numbers slips.old.items) (events_of done.new.items) (seen C.Chip.blocks C.Chip.per C.Chip.pages store.new) (slip_numbers slips.new.items) }
+    ensures goes { Goes (blank_call blank.entry ∷ []) (events_of done.old.items) (seen store.old) (slip_numbers slips.old.items) (events_of done.new.items) (seen store.new) (slip_numbers slips.new.items) }
 {
     let Blank {
         request,
@@ -67,7 +67,7 @@ pub(crate) fn make_calls<'a, C: Chip>(
     requires room { vec_len done.old + vec_len slips.old + (vec_len blanks + opens_in (blank_calls blanks.items)) ≤ vec_capacity done.old }
     ensures kept { C.Chip.kept store.new.chip ≡ C.Chip.kept store.old.chip }
     ensures room { vec_len done.new + vec_len slips.new ≤ vec_capacity done.new }
-    ensures goes { Goes (blank_calls blanks.entry.items) (events_of done.old.items) (seen C.Chip.blocks C.Chip.per C.Chip.pages store.old) (slip_numbers slips.old.items) (events_of done.new.items) (seen C.Chip.blocks C.Chip.per C.Chip.pages store.new) (slip_numbers slips.new.items) }
+    ensures goes { Goes (blank_calls blanks.entry.items) (events_of done.old.items) (seen store.old) (slip_numbers slips.old.items) (events_of done.new.items) (seen store.new) (slip_numbers slips.new.items) }
 {
     while let Some(blank) = blanks.pop() {
         make_call(store, slips, done, blank);

@@ -19,7 +19,7 @@ pub(crate) fn open_slip<C: Chip>(store: &mut Store<C>, slips: &mut Vec<Slip>) ->
     requires { vec_len slips.old < vec_capacity slips.old }
     ensures kept { C.Chip.kept store.new.chip ≡ C.Chip.kept store.old.chip }
     ensures capacity { vec_capacity slips.new ≡ vec_capacity slips.old }
-    ensures called { Called open_slip (seen C.Chip.blocks C.Chip.per C.Chip.pages store.old) (slip_numbers slips.old.items) (said_with result []) (seen C.Chip.blocks C.Chip.per C.Chip.pages store.new) (slip_numbers slips.new.items) }
+    ensures called { Called open_slip (seen store.old) (slip_numbers slips.old.items) (said_with result []) (seen store.new) (slip_numbers slips.new.items) }
 {
     match store.open() {
         Ok(slip) => {
@@ -39,7 +39,7 @@ pub(crate) fn keep_slip<C: Chip>(
 ) -> Option<Said>
     ensures kept { C.Chip.kept store.new.chip ≡ C.Chip.kept store.old.chip }
     ensures capacity { vec_capacity slips.new ≡ vec_capacity slips.old }
-    ensures turn { Turn (keep_slip state.0) (seen C.Chip.blocks C.Chip.per C.Chip.pages store.old) (slip_numbers slips.old.items) [] result (seen C.Chip.blocks C.Chip.per C.Chip.pages store.new) (slip_numbers slips.new.items) }
+    ensures turn { Turn (keep_slip state.0) (seen store.old) (slip_numbers slips.old.items) [] result (seen store.new) (slip_numbers slips.new.items) }
 {
     match take_slip(slips, state) {
         Some(slip) => Some(tell_tick(store.keep(slip))),
@@ -55,7 +55,7 @@ pub(crate) fn back_slip<C: Chip>(
 ) -> Option<Said>
     ensures kept { C.Chip.kept store.new.chip ≡ C.Chip.kept store.old.chip }
     ensures capacity { vec_capacity slips.new ≡ vec_capacity slips.old }
-    ensures turn { Turn (back_slip state.0) (seen C.Chip.blocks C.Chip.per C.Chip.pages store.old) (slip_numbers slips.old.items) [] result (seen C.Chip.blocks C.Chip.per C.Chip.pages store.new) (slip_numbers slips.new.items) }
+    ensures turn { Turn (back_slip state.0) (seen store.old) (slip_numbers slips.old.items) [] result (seen store.new) (slip_numbers slips.new.items) }
 {
     match take_slip(slips, state) {
         Some(slip) => Some(tell_tick(store.back(slip))),

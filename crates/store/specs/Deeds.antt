@@ -1,11 +1,11 @@
 -- What each call makes of a store: v is the store before, a the answer, w the store after.
-use Rattle.std.specs.Prelude.{true, false, cond, List, [], ◌∷◌, ◌≡◌, ℕ, eqb, ltb, length}
+use Rattle.std.specs.Prelude.{true, false, cond, List, [], ◌∷◌, ◌≡◌, ◌≢◌, ℕ, ◌-◌, ◌≤◌, eqb, ltb, length}
 use Rattle.readings.specs.Changes.{fresh}
 use Rattle.readings.specs.Mount.{mount_verdict, size_fits}
 use Rattle.rules.specs.Calls.{Call, mount, close, count, clean, freeze, open_slip, write, delete, read, look, since, since_in, ask_held, ask_label, release, revert, keep_slip, back_slip, Answer, refused, granted, rule}
-use Rattle.calls.specs.Follows.{Followed, Cleaned}
+use Rattle.calls.specs.Follows.{stale_count}
 use Rattle.store.specs.declared.slips.Slip.{Slip}
-use Rattle.store.specs.Views.{View, reading_of, capacity_of, Sound, SameSize}
+use Rattle.store.specs.Views.{View, is_open, reading_of, capacity_of, Sound, SameSize}
 
 -- The number that a slip stands for.
 abbrev pub slip_value : Slip → List ℕ
@@ -15,31 +15,38 @@ slip_value s = s.number.0 ∷ []
 abbrev pub refused_with : ℕ → List ℕ → Answer
 refused_with n values = record { number = n; values = values; buffer = [] }
 
--- The call follows its rule (its answer and the new reading are the rule's, applied to the former reading; it is sound again; a refusal changes nothing), and the store stays open.
+-- The call follows its rule: its answer and the new reading are the rule's, applied to the former reading. A refusal changes nothing, and the store stays open and sound.
 pub record Follows (c : Call) (v : View) (a : Answer) (w : View) : Type 0 where
-  pub followed : Followed c v.blocks v.per v.pages v.memory a w.pages w.memory
-  pub stays_open : w.is_open ≡ true
+  pub answer : a ≡ (rule (capacity_of v) c (reading_of v)).answer
+  pub reads : reading_of w ≡ (rule (capacity_of v) c (reading_of v)).left
+  pub refusal : (a.number ≢ 0) → w ≡ v
+  pub sound : Sound w
+  pub stays_open : is_open w ≡ true
   pub same_size : SameSize v w
 
 -- A change: a write, delete, freeze, release, revert, open, keep or back.
 pub record Changes (c : Call) (v : View) (a : Answer) (w : View) : Type 0 where
-  pub closed : v.is_open ≡ false → (a ≡ refused 2 c) × (w ≡ v)
-  pub open? : v.is_open ≡ true → Sound v → Follows c v a w
+  pub closed : is_open v ≡ false → (a ≡ refused 2 c) × (w ≡ v)
+  pub open? : is_open v ≡ true → Follows c v a w
 
 -- A query: the store stays as it is.
 pub record Asks (c : Call) (v : View) (a : Answer) : Type 0 where
-  pub closed : v.is_open ≡ false → a ≡ refused 2 c
-  pub open? : v.is_open ≡ true → Sound v → a ≡ (rule (capacity_of v) c (reading_of v)).answer
+  pub closed : is_open v ≡ false → a ≡ refused 2 c
+  pub open? : is_open v ≡ true → a ≡ (rule (capacity_of v) c (reading_of v)).answer
 
 -- Clean loses so many stale pages, 0 exactly where there was none, and nothing else is changed. (Which block is cleaned is open: v and w differ in where pages stand.)
 pub record Loses (v : View) (a : Answer) (w : View) : Type 0 where
-  pub cleaned : Cleaned v.blocks v.per v.pages a w.pages w.memory
-  pub stays_open : w.is_open ≡ true
+  pub answer : a ≡ granted ((stale_count v.pages - stale_count w.pages) ∷ []) []
+  pub no_more : stale_count w.pages ≤ stale_count v.pages
+  pub some_lost : stale_count w.pages ≡ stale_count v.pages → stale_count v.pages ≡ 0
+  pub reads : reading_of w ≡ reading_of v
+  pub sound : Sound w
+  pub stays_open : is_open w ≡ true
   pub same_size : SameSize v w
 
 pub record Cleans (v : View) (a : Answer) (w : View) : Type 0 where
-  pub closed : v.is_open ≡ false → (a ≡ refused 2 clean) × (w ≡ v)
-  pub open? : v.is_open ≡ true → Sound v → Loses v a w
+  pub closed : is_open v ≡ false → (a ≡ refused 2 clean) × (w ≡ v)
+  pub open? : is_open v ≡ true → Loses v a w
 
 -- The chip is as it was, and the store open or closed.
 pub record SameChip (v w : View) : Type 0 where
@@ -47,8 +54,8 @@ pub record SameChip (v w : View) : Type 0 where
   pub pages : w.pages ≡ v.pages
 
 pub record Closes (v : View) (a : Answer) (w : View) : Type 0 where
-  pub closed : v.is_open ≡ false → (a ≡ refused 2 close) × (w ≡ v)
-  pub open? : v.is_open ≡ true → (a ≡ granted [] []) × SameChip v w × (w.is_open ≡ false)
+  pub closed : is_open v ≡ false → (a ≡ refused 2 close) × (w ≡ v)
+  pub open? : is_open v ≡ true → (a ≡ granted [] []) × SameChip v w × (is_open w ≡ false)
 
 -- What mount answers on a closed store: the clock, or by the pages why they are no store.
 abbrev pub mount_answer : View → Answer
@@ -58,25 +65,25 @@ mount_answer v =
 
 pub record Mounted (v : View) (w : View) : Type 0 where
   pub same_chip : SameChip v w
-  pub opens : w.is_open ≡ true
+  pub opens : is_open w ≡ true
   pub sound : Sound w
 
 pub record Mounts (v : View) (a : Answer) (w : View) : Type 0 where
-  pub open? : v.is_open ≡ true → (a ≡ refused 1 mount) × (w ≡ v)
-  pub closed : v.is_open ≡ false → a ≡ mount_answer v
+  pub open? : is_open v ≡ true → (a ≡ refused 1 mount) × (w ≡ v)
+  pub closed : is_open v ≡ false → a ≡ mount_answer v
   pub refusal : (a.number ≡ 0 → ⊥) → w ≡ v
   pub granted : a.number ≡ 0 → Mounted v w
 
 -- What format answers: the first clock, or why it is refused.
 abbrev pub format_answer : List ℕ → View → Answer
 format_answer label v =
-    cond v.is_open (refused_with 1 [])
+    cond (is_open v) (refused_with 1 [])
     (cond (size_fits v.blocks v.per) (cond (ltb 32 (length label)) (refused_with 4 []) (granted (1 ∷ []) [])) (refused_with 3 []))
 
 -- A fresh store: open and sound, with the label, and nothing else on the chip. (Which page has the register is open.)
 pub record Formatted (label : List ℕ) (v w : View) : Type 0 where
   pub same_size : SameSize v w
-  pub opens : w.is_open ≡ true
+  pub opens : is_open w ≡ true
   pub sound : Sound w
   pub reads : reading_of w ≡ fresh label
 

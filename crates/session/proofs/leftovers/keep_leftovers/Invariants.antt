@@ -10,7 +10,7 @@ abbrev pub invariant-loop-heap : goal.invariant-loop-heap
 invariant-loop-heap g l =
     (vec_len l.done + vec_len l.slips ≤ vec_capacity l.done)
     × (g.C.Chip.kept l.store.chip ≡ g.C.Chip.kept l.initial.store.chip)
-    × ((late : List ℕ) × Goes (map keep_slip late) (events_of (vec_items l.initial.done)) (seen g.C.Chip.blocks g.C.Chip.per g.C.Chip.pages l.initial.store) (slip_numbers (vec_items l.initial.slips)) (events_of (vec_items l.done)) (seen g.C.Chip.blocks g.C.Chip.per g.C.Chip.pages l.store) (slip_numbers (vec_items l.slips)))
+    × ((late : List ℕ) × Goes (map keep_slip late) (events_of (vec_items l.initial.done)) (seen l.initial.store) (slip_numbers (vec_items l.initial.slips)) (events_of (vec_items l.done)) (seen l.store) (slip_numbers (vec_items l.slips)))
 
 abbrev pub decreases-loop-heap : goal.decreases-loop-heap
 decreases-loop-heap g l = vec_len l.slips

@@ -14,7 +14,7 @@ invariant-loop-blank g l =
     × (vec_len l.slips + opens_in (blank_calls (vec_items l.blanks)) ≤ vec_capacity l.slips)
     × (vec_len l.done + vec_len l.slips + (vec_len l.blanks + opens_in (blank_calls (vec_items l.blanks))) ≤ vec_capacity l.done)
     × (g.C.Chip.kept l.store.chip ≡ g.C.Chip.kept l.initial.store.chip)
-    × ((more : List Call) × (blank_calls (vec_items l.initial.blanks) ≡ blank_calls (vec_items l.blanks) ++ more) × Goes more (events_of (vec_items l.initial.done)) (seen g.C.Chip.blocks g.C.Chip.per g.C.Chip.pages l.initial.store) (slip_numbers (vec_items l.initial.slips)) (events_of (vec_items l.done)) (seen g.C.Chip.blocks g.C.Chip.per g.C.Chip.pages l.store) (slip_numbers (vec_items l.slips)))
+    × ((more : List Call) × (blank_calls (vec_items l.initial.blanks) ≡ blank_calls (vec_items l.blanks) ++ more) × Goes more (events_of (vec_items l.initial.done)) (seen l.initial.store) (slip_numbers (vec_items l.initial.slips)) (events_of (vec_items l.done)) (seen l.store) (slip_numbers (vec_items l.slips)))
 
 abbrev pub decreases-loop-blank : goal.decreases-loop-blank
 decreases-loop-blank g l = vec_len l.blanks
