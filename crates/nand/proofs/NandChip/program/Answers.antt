@@ -9,7 +9,9 @@ use Rattle.nand.proofs.NandChip.program.Goals as goal
 pub is_erased_at-requires : goal.is_erased_at-requires
 is_erased_at-requires c =
     let bs = c.args.self.now.image.now in
-    part_nand bs (page_found 32 (nand_pages bs) c.args.page.0 _ _ _ c.in_ok-block.ensures)
+    let f = page_found 32 (nand_pages bs) c.args.page.0 _ _ _ c.in_ok-block.ensures in
+    let h = part_nand bs f in
+    omega arith
 
 pub returns-then-not-is_erased_at : goal.returns-then-not-is_erased_at
 returns-then-not-is_erased_at c =
