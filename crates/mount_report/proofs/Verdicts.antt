@@ -9,9 +9,9 @@ use Rattle.refusals.specs.declared.types.Refusal.{Refusal}
 use Rattle.rules.specs.Calls.{Answer, granted}
 use Rattle.rules.specs.Told.{refused_by, told, tick_value}
 use Rattle.rules.specs.declared.types.Tick.{Tick}
-use Rattle.store.specs.Views.{View, reading_of, capacity_of}
+use Rattle.store.specs.Views.{View, is_open, reading_of, capacity_of}
 use Rattle.store.specs.Deeds.{refused_with, Mounts}
-use Rattle.mount_report.specs.Lines.{Ready, opened_text, refusal_line, mount_text}
+use Rattle.mount_report.specs.Lines.{opened_text, refusal_line, mount_text}
 use Rattle.mount_report.proofs.Granted.{some_number}
 
 -- By a verdict's number n: `b` says whether it is 0.
@@ -29,21 +29,18 @@ refused_line true clock n values opened f e = absurd (some_number f (ap (λ (a :
 refused_line false clock n values opened f e = ap (λ (a : Answer). refusal_line a.number a.values) e
 
 module _ (v w : View) where
-  pub refused_text : (f : Refusal) → Mounts v (told tick_value [] (Err f)) w → v.is_open ≡ false →
+  pub refused_text : (f : Refusal) → Mounts v (told tick_value [] (Err f)) w → is_open v ≡ false →
       refusal_line (verdict_of f).number (verdict_of f).values ≡ mount_text v.blocks v.per v.pages
   refused_text f mounts closed =
       let verdict = mount_verdict v.blocks v.per v.pages in
       refused_line (eqb verdict.number 0) (reading_of v).clock verdict.number verdict.values (opened_text (capacity_of v) (reading_of v)) f (mounts.closed closed)
 
   module _ (t : Tick) (mounts : Mounts v (told tick_value [] (Ok t)) w) where
-    pub opened_ready : Ready w
-    opened_ready = record { opens = (mounts.granted refl).opens; sound = (mounts.granted refl).sound }
-
     -- Mount is granted on a closed store only.
-    was_closed : v.is_open ≡ false
-    was_closed = go v.is_open refl
+    was_closed : is_open v ≡ false
+    was_closed = go (is_open v) refl
       where
-        go : (b : Bool) → v.is_open ≡ b → v.is_open ≡ false
+        go : (b : Bool) → is_open v ≡ b → is_open v ≡ false
         go true is = let e = ap (λ (a : Answer). a.number) (mounts.open? is).0 in absurd (omega arith)
         go false is = is
 

@@ -1,6 +1,6 @@
 -- What mount makes of a chip, in lines.
-use Rattle.std.specs.Prelude.{◌≡◌, ℕ, zero, suc, true, cond, List, [], ◌∷◌, ◌++◌, reverse, length, codes, decimal, ◌==◌}
-use Rattle.std.proofs.Math.Option.{Option}
+use Rattle.std.specs.Prelude.{◌≡◌, ℕ, zero, suc, true, cond, List, [], ◌∷◌, ◌++◌, reverse, length, codes, decimal, Some, None, Option, ◌==◌}
+use Rattle.std.proofs.Math.Option.{Option as Maybe}
 use Rattle.std.specs.List.{flat_map}
 use Rattle.chip.specs.Pages.{Page}
 use Rattle.readings.specs.Versions.{Version, has, Reading}
@@ -11,23 +11,16 @@ use Rattle.readings.specs.Mount.{capacity, mount_verdict}
 use Rattle.rules.specs.Calls.{born_at}
 use Rattle.inspection.specs.Descriptions.{text, held_text, quoted}
 use Rattle.inspection.specs.Reports.{line}
-use Rattle.store.specs.Views.{View, Sound}
-use Rattle.mount_report.specs.declared.lists.State.{State}
-use Rattle.mount_report.specs.declared.lists.State.TheVariants.{Present, Frozen}
+use Rattle.rules.specs.declared.types.Tick.{Tick}
 
--- A store that is open, with memory that tells what its pages say.
-pub record Ready (v : View) : Type 0 where
-  pub opens : v.is_open ≡ true
-  pub sound : Sound v
+-- A state that can be listed: the present one, which is None, or that of a held number.
+abbrev pub Known : Reading → Option Tick → Type 0
+Known r None = Unit {0}
+Known r (Some tick) = has tick.0 r.held ≡ true
 
--- A state that can be listed: the present one, or that of a held number.
-abbrev pub Known : Reading → State → Type 0
-Known r Present = Unit {0}
-Known r (Frozen n) = has n r.held ≡ true
-
-abbrev pub version_in : Reading → State → ℕ → Option Version
-version_in r Present sector = present r sector
-version_in r (Frozen n) sector = in_state r n sector
+abbrev pub version_in : Reading → Option Tick → ℕ → Maybe Version
+version_in r None sector = present r sector
+version_in r (Some tick) sector = in_state r tick.0 sector
 
 -- A sector with the birth of its data, after a space; nothing where it has none.
 abbrev pub entry : ℕ → List ℕ → List ℕ
@@ -35,7 +28,7 @@ entry sector [] = []
 entry sector (birth ∷ more) = text (codes " " ∷ decimal sector ∷ codes "/" ∷ decimal birth ∷ [])
 
 -- The entries of the first n sectors. (Shut, so that it does not compute.)
-unfoldable pub entries : Reading → State → ℕ → List ℕ
+unfoldable pub entries : Reading → Option Tick → ℕ → List ℕ
 entries r state zero = []
 entries r state (suc n) = entries r state n ++ entry n (born_at (version_in r state n))
 
@@ -43,12 +36,12 @@ abbrev pub or_none : List ℕ → List ℕ
 or_none [] = codes " none"
 or_none (b ∷ bs) = b ∷ bs
 
-abbrev pub state_name : State → List ℕ
-state_name Present = codes "present"
-state_name (Frozen n) = text (codes "state " ∷ decimal n ∷ [])
+abbrev pub state_name : Option Tick → List ℕ
+state_name None = codes "present"
+state_name (Some tick) = text (codes "state " ∷ decimal tick.0 ∷ [])
 
 -- All sectors of a state that hold data.
-abbrev pub list_line : Reading → State → List ℕ
+abbrev pub list_line : Reading → Option Tick → List ℕ
 list_line r state = line (state_name state ∷ codes ":" ∷ or_none (entries r state 2048) ∷ [])
 
 abbrev pub granted_line : ℕ → List ℕ → List ℕ → ℕ → ℕ → List ℕ
@@ -57,12 +50,12 @@ granted_line clock held label needed cap =
 
 -- A list for each number, in their order.
 abbrev pub state_lines : Reading → List ℕ → List ℕ
-state_lines r numbers = flat_map (λ n. list_line r (Frozen n)) numbers
+state_lines r numbers = flat_map (λ n. list_line r (Some (record { 0 = n }))) numbers
 
 -- A chip that reads as r, with capacity `cap`.
 abbrev pub opened_text : ℕ → Reading → List ℕ
 opened_text cap r =
-    granted_line r.clock (reverse r.held) r.label (length r.versions) cap ++ list_line r Present ++ state_lines r (reverse r.held)
+    granted_line r.clock (reverse r.held) r.label (length r.versions) cap ++ list_line r None ++ state_lines r (reverse r.held)
 
 -- A refusal with its values: none, or a page and a cause.
 abbrev pub refusal_line : ℕ → List ℕ → List ℕ

@@ -2,6 +2,7 @@
 #![tactic(auto)]
 
 mod lists;
+mod mounted;
 mod mounts;
 mod opened;
 mod reports;

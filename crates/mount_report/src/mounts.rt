@@ -1,10 +1,10 @@
 // What mount makes of a chip.
-ghost use Rattle.std.specs.Prelude.{◌≡◌, IfOk, string_bytes};
+ghost use Rattle.std.specs.Prelude.{◌≡◌, false, IfOk, string_bytes};
 ghost use Rattle.refusals.specs.Numbers.{verdict_of};
-ghost use Rattle.store.specs.declared.parts.Mode.TheVariants.{Closed};
+ghost use Rattle.store.specs.Views.{seen, is_open};
 ghost use Rattle.mount_report.specs.Lines.{refusal_line, mount_text};
 
-use crate::opened::opened_text;
+use crate::mounted::Mounted;
 use chip::Chip;
 use refusals::Refusal;
 use std::alloc::{AllocError, Global};
@@ -30,10 +30,10 @@ pub fn mount_lines<C: Chip>(heap: Global, store: &mut Store<C>) -> Result<String
     ensures kept { C.Chip.kept store.new.chip ≡ C.Chip.kept store.old.chip }
     ensures blocks { C.Chip.blocks store.new.chip ≡ C.Chip.blocks store.old.chip }
     ensures pages { C.Chip.pages store.new.chip ≡ C.Chip.pages store.old.chip }
-    ensures text { store.old.mode ≡ Closed → IfOk result (λ text. string_bytes text ≡ mount_text (C.Chip.blocks store.old.chip) C.Chip.per (C.Chip.pages store.old.chip)) }
+    ensures text { is_open (seen store.old) ≡ false → IfOk result (λ text. string_bytes text ≡ mount_text (C.Chip.blocks store.old.chip) C.Chip.per (C.Chip.pages store.old.chip)) }
 {
     match store.mount() {
-        Ok(clock) => opened_text(heap, store, clock),
+        Ok(clock) => Mounted { heap, store }.text(clock),
         Err(refusal) => refusal_line(heap, refusal),
     }
 }

@@ -2,46 +2,14 @@
 ghost use Rattle.std.specs.Prelude.{◌≡◌, [], ◌∷◌, reverse, length, IfOk, string_bytes};
 ghost use Rattle.rules.specs.Told.{count_value};
 ghost use Rattle.store.specs.Views.{seen, reading_of, capacity_of};
-ghost use Rattle.mount_report.specs.Lines.{Ready, granted_line, opened_text};
+ghost use Rattle.mount_report.specs.Lines.{granted_line, opened_text};
 
-use crate::lists::{State, list_line, push_state_lines};
+use crate::mounted::Mounted;
 use chip::Chip;
 use inspection::descriptions::{held_text, label_text};
 use limits::{LABEL_BYTES, MOST_HELD};
 use rules::{Count, Tick};
 use std::alloc::{AllocError, Global};
-use store::Store;
-
-// The held numbers, rising.
-fn held_numbers<C: Chip>(heap: Global, store: &Store<C>) -> Result<Vec<u32>, AllocError>
-    requires { Ready (seen C.Chip.blocks C.Chip.per C.Chip.pages store.now) }
-    ensures { IfOk result (λ numbers. numbers.items ≡ reverse (reading_of (seen C.Chip.blocks C.Chip.per C.Chip.pages store.now)).held) }
-{
-    let mut buffer = [0; MOST_HELD];
-    let count = store.held(&mut buffer).unwrap_or(0);
-    Vec::from_slice(heap, &buffer[0..count])
-}
-
-fn label_bytes<C: Chip>(heap: Global, store: &Store<C>) -> Result<Vec<u8>, AllocError>
-    requires { Ready (seen C.Chip.blocks C.Chip.per C.Chip.pages store.now) }
-    ensures { IfOk result (λ bytes. bytes.items ≡ (reading_of (seen C.Chip.blocks C.Chip.per C.Chip.pages store.now)).label) }
-{
-    let mut buffer = [0; LABEL_BYTES];
-    let size = store.label(&mut buffer).unwrap_or(0);
-    Vec::from_slice(heap, &buffer[0..size])
-}
-
-// The needed versions and the capacity.
-fn count_of<C: Chip>(store: &Store<C>) -> Count
-    requires { Ready (seen C.Chip.blocks C.Chip.per C.Chip.pages store.now) }
-    ensures { count_value result ≡ length (reading_of (seen C.Chip.blocks C.Chip.per C.Chip.pages store.now)).versions ∷ capacity_of (seen C.Chip.blocks C.Chip.per C.Chip.pages store.now) ∷ [] }
-{
-    let none = Count {
-        needed: 0,
-        capacity: 0,
-    };
-    store.count().unwrap_or(none)
-}
 
 // The line on a mount that is granted.
 fn granted_line(
@@ -63,22 +31,47 @@ fn granted_line(
     Ok(text)
 }
 
-// All lines on an open store whose clock was answered by mount.
-pub(crate) fn opened_text<C: Chip>(
-    heap: Global,
-    store: &Store<C>,
-    clock: Tick,
-) -> Result<String, AllocError>
-    requires ready { Ready (seen C.Chip.blocks C.Chip.per C.Chip.pages store.now) }
-    requires clock { clock.0 ≡ (reading_of (seen C.Chip.blocks C.Chip.per C.Chip.pages store.now)).clock }
-    ensures { IfOk result (λ text. string_bytes text ≡ opened_text (capacity_of (seen C.Chip.blocks C.Chip.per C.Chip.pages store.now)) (reading_of (seen C.Chip.blocks C.Chip.per C.Chip.pages store.now))) }
-{
-    let held = held_numbers(heap, store)?;
-    let label = label_bytes(heap, store)?;
-    let count = count_of(store);
-    let mut text = granted_line(heap, clock, held.as_slice(), label.as_slice(), count)?;
-    let present = list_line(heap, store, State::Present)?;
-    text.push_str(present.as_str())?;
-    push_state_lines(heap, &mut text, store, held.as_slice())?;
-    Ok(text)
+impl<C: Chip> Mounted<'_, C> {
+    // The held numbers, rising.
+    fn held_numbers(&self) -> Result<Vec<u32>, AllocError>
+        ensures { IfOk result (λ numbers. numbers.items ≡ reverse (reading_of (seen self.now.store.now)).held) }
+    {
+        let mut buffer = [0; MOST_HELD];
+        let count = self.store.held(&mut buffer).unwrap_or(0);
+        Vec::from_slice(self.heap, &buffer[0..count])
+    }
+
+    fn label_bytes(&self) -> Result<Vec<u8>, AllocError>
+        ensures { IfOk result (λ bytes. bytes.items ≡ (reading_of (seen self.now.store.now)).label) }
+    {
+        let mut buffer = [0; LABEL_BYTES];
+        let size = self.store.label(&mut buffer).unwrap_or(0);
+        Vec::from_slice(self.heap, &buffer[0..size])
+    }
+
+    // The needed versions and the capacity.
+    fn count(&self) -> Count
+        ensures { count_value result ≡ length (reading_of (seen self.now.store.now)).versions ∷ capacity_of (seen self.now.store.now) ∷ [] }
+    {
+        let none = Count {
+            needed: 0,
+            capacity: 0,
+        };
+        self.store.count().unwrap_or(none)
+    }
+
+    // All lines, by the clock that mount answered.
+    pub(crate) fn text(&self, clock: Tick) -> Result<String, AllocError>
+        requires { clock.0 ≡ (reading_of (seen self.now.store.now)).clock }
+        ensures { IfOk result (λ text. string_bytes text ≡ opened_text (capacity_of (seen self.now.store.now)) (reading_of (seen self.now.store.now))) }
+    {
+        let held = self.held_numbers()?;
+        let label = self.label_bytes()?;
+        let count = self.count();
+        let mut text = granted_line(self.heap, clock, held.as_slice(), label.as_slice(), count)?;
+        let present = self.list_line(None)?;
+        text.push_str(present.as_str())?;
+        self.push_state_lines(&mut text, held.as_slice())?;
+        Ok(text)
+    }
 }

@@ -1,8 +1,8 @@
 use Rattle.std.proofs.Common.{◌≡◌, ◌++◌, take, string_bytes}
 use Rattle.store.specs.Views.{seen, reading_of}
 use Rattle.mount_report.specs.Lines.{state_lines}
-use Rattle.mount_report.proofs.lists.push_state_lines.Given as goal
+use Rattle.mount_report.proofs.mounted.Mounted.push_state_lines.Given as goal
 
 abbrev pub invariant-loop-number : goal.invariant-loop-number
 invariant-loop-number g l =
-    string_bytes l.text ≡ string_bytes l.initial.text ++ state_lines (reading_of (seen g.C.Chip.blocks g.C.Chip.per g.C.Chip.pages l.store)) (take l.number-index l.numbers)
+    string_bytes l.text ≡ string_bytes l.initial.text ++ state_lines (reading_of (seen l.self.store.now)) (take l.number-index l.numbers)
