@@ -1,4 +1,3 @@
-pub mod Requests
 pub mod Words
 pub mod Turns
 pub mod Joins

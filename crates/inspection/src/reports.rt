@@ -77,9 +77,8 @@ fn shape_line(
 ) -> Result<String, AllocError>
     ensures { IfOk result (λ text. string_bytes text ≡ shape_line (name_of make) blocks block_pages left_over) }
 {
-    let name = make.name();
     format!(in heap;
-        "{name} chip: {blocks} blocks of {block_pages} pages, {left_over} bytes left over\n"
+        "{make} chip: {blocks} blocks of {block_pages} pages, {left_over} bytes left over\n"
     )
 }
 
