@@ -1,3 +1,2 @@
-pub mod Words
-pub mod Turns
+pub mod Totals
 pub mod Joins
