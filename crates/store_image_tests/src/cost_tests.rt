@@ -90,8 +90,8 @@ fn queries_read_one_page_at_most_and_refusals_none() -> Result<(), Fail> {
             (Look(3, 1, 65), [1, 0, 0]),
             (ReadEmpty(9), [0, 0, 0]),
             (LookEmpty(3, 2), [0, 0, 0]),
-            (Since(1, Ok(4)), [0, 0, 0]),
-            (SinceIn(3, 1, Ok(2)), [0, 0, 0]),
+            (Since(1, Ok(Some(4))), [0, 0, 0]),
+            (SinceIn(3, 1, Ok(Some(2))), [0, 0, 0]),
             (Count(Ok((3, 6))), [0, 0, 0]),
             (Held(&[3]), [0, 0, 0]),
             (Label(b""), [0, 0, 0]),
@@ -105,7 +105,7 @@ fn queries_read_one_page_at_most_and_refusals_none() -> Result<(), Fail> {
             (SinceIn(4, 1, Err(9)), [0, 0, 0]),
             (Format(b"", Err(1)), [0, 0, 0]),
             (Mount(Err(1)), [0, 0, 0]),
-            (Close(Ok(0)), [0, 0, 0]),
+            (Close(Ok(())), [0, 0, 0]),
         ],
     )
 }

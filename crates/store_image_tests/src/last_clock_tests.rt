@@ -35,7 +35,7 @@ fn the_last_tick_is_given_once() -> Result<(), Fail> {
             Read(1, 66),
             Look(5, 1, 65),
             Held(&[5]),
-            Close(Ok(0)),
+            Close(Ok(())),
             Mount(Ok(LAST)),
             Read(1, 66),
             Held(&[5]),
@@ -112,7 +112,7 @@ fn spend_at_the_end<A: Chip, B: Chip>(
         &[
             Held(&[5]),
             Read(1, 66),
-            Close(Ok(0)),
+            Close(Ok(())),
             Mount(Ok(LAST)),
             Held(&[5]),
         ],

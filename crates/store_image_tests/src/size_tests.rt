@@ -19,7 +19,7 @@ fn pages_are_2048_at_most(rt: HostRuntime) -> Result<(), Fail> {
         &[
             Format(b"", Ok(1)),
             Write(2047, 65, Ok(2)),
-            Close(Ok(0)),
+            Close(Ok(())),
             Mount(Ok(2)),
             Read(2047, 65),
             Count(Ok((1, 2038))),
