@@ -1,4 +1,2 @@
-pub mod Requests
-pub mod Words
-pub mod Turns
+pub mod Totals
 pub mod Joins

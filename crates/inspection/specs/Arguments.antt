@@ -1,6 +1,5 @@
 -- What the arguments of the program ask for.
 use Rattle.std.specs.Prelude.{ℕ, cond, List, [], ◌∷◌, Some, None, Ok, Err, codes, Option, Result}
-use Rattle.std.specs.Borrow.{Bor}
 use Rattle.std.specs.Str.{bytes_eq}
 use Rattle.inspection.specs.declared.arguments.Make.{Make}
 use Rattle.inspection.specs.declared.arguments.Make.TheVariants.{Nand, Nor}
@@ -22,9 +21,6 @@ Asked = Result (Make × List ℕ) UsageFault
 abbrev pub asked : Result Request UsageFault → Asked
 asked (Ok request) = Ok (request.make, request.file.now)
 asked (Err fault) = Err fault
-
-abbrev pub texts : Bor (List ℕ) × Bor (List ℕ) → List ℕ × List ℕ
-texts pair = (pair.0.now, pair.1.now)
 
 -- The two arguments after the program's name, of all arguments by their bytes.
 abbrev pub operands_of : List (List ℕ) → Option (List ℕ × List ℕ)

@@ -1,7 +1,11 @@
 // The arguments of the program: the chip's make and the image's file.
-ghost use Rattle.std.specs.Prelude.{◌≡◌, map, string_bytes};
-ghost use Rattle.std.specs.Option.{option_map};
-ghost use Rattle.inspection.specs.Arguments.{name_of, make_of, texts, operands_of, request_of, asked};
+ghost use Rattle.std.specs.Prelude.{◌≡◌, map, Some, string_bytes};
+ghost use Rattle.std.specs.Option.{ok_or};
+ghost use Rattle.inspection.specs.declared.arguments.UsageFault.TheVariants.{UnknownMake};
+ghost use Rattle.inspection.specs.Arguments.{name_of, make_of, request_of, asked};
+
+use std::fmt;
+use std::str::FromStr;
 
 // The line for arguments that the program can't follow.
 pub const USAGE: &str = "usage: inspect nand|nor FILE";
@@ -12,23 +16,27 @@ pub enum Make {
     Nor,
 }
 
-impl Make {
-    pub fn name(self) -> &'static str
-        ensures { result.now ≡ name_of self }
-    {
-        match self {
+impl fmt::Display for Make {
+    ghost output = { λ make. Some (name_of make) };
+
+    fn fmt<W: fmt::Write>(&self, f: &mut fmt::Formatter<W>) -> fmt::Result {
+        f.write_str(match self {
             Make::Nand => "nand",
             Make::Nor => "nor",
-        }
+        })
     }
+}
 
-    fn from_name(name: &str) -> Option<Make>
-        ensures { result ≡ make_of name.now }
-    {
+impl FromStr for Make {
+    type Err = UsageFault;
+
+    ghost from_str_gives = { λ name make. make ≡ ok_or (make_of name) UnknownMake };
+
+    fn from_str(name: &str) -> Result<Make, UsageFault> {
         match name {
-            "nand" => Some(Make::Nand),
-            "nor" => Some(Make::Nor),
-            _ => None,
+            "nand" => Ok(Make::Nand),
+            "nor" => Ok(Make::Nor),
+            _ => Err(UsageFault::UnknownMake),
         }
     }
 }
@@ -48,25 +56,15 @@ pub enum UsageFault {
     UnknownMake,
 }
 
-// The two arguments after the program's name.
-fn operands(arguments: &[String]) -> Option<(&str, &str)>
-    ensures { option_map texts result ≡ operands_of (map string_bytes arguments.now) }
-{
-    match arguments {
-        [_, make, file] => Some((make.as_str(), file.as_str())),
-        _ => None,
-    }
-}
-
 // The program's name comes first among the arguments.
 pub fn parse_arguments(arguments: &[String]) -> Result<Request<'_>, UsageFault>
     ensures { asked result ≡ request_of (map string_bytes arguments.now) }
 {
-    match operands(arguments) {
-        Some((make, file)) => match Make::from_name(make) {
-            Some(make) => Ok(Request { make, file }),
-            None => Err(UsageFault::UnknownMake),
-        },
-        None => Err(UsageFault::ArgumentCount),
-    }
+    let [_, make, file] = arguments else {
+        return Err(UsageFault::ArgumentCount);
+    };
+    Ok(Request {
+        make: make.parse()?,
+        file: file.as_str(),
+    })
 }

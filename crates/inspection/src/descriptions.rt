@@ -1,13 +1,86 @@
 // What the line of a page says of it.
-ghost use Rattle.std.specs.Prelude.{◌≡◌, ◌/◌, ◌%◌, ◌<◌, [], ◌∷◌, ◌++◌, IfOk, string_bytes, OnOk};
+ghost use Rattle.std.specs.Prelude.{◌≡◌, Some, IfOk, string_bytes};
 ghost use Rattle.std.specs.Option.{option_map};
-ghost use Rattle.layout.specs.Page.{answer, page_meaning, cause_number};
+ghost use Rattle.layout.specs.Page.{answer, cause_number};
 ghost use Rattle.limits.specs.Values.{held_of, label_of};
-ghost use Rattle.inspection.specs.Descriptions.{version_text, held_text, spaced, hex_digit, is_plain, escaped, escaped_all, quoted, register_text, cause_text, described};
+ghost use Rattle.inspection.specs.Descriptions.{version_text, held_text, is_plain, escaped, quoted, register_text, cause_text, described};
 
 use layout::{Cause, Page};
 use limits::{Register, Version};
 use std::alloc::{AllocError, Global};
+use std::fmt;
+
+// Held numbers with one space between, or `none`.
+#[derive(Drop)]
+struct HeldNumbers<'a>(&'a [u32]);
+
+impl fmt::Display for HeldNumbers<'_> {
+    ghost output = { λ held. Some (held_text held.0.now) };
+
+    fn fmt<W: fmt::Write>(&self, f: &mut fmt::Formatter<W>) -> fmt::Result {
+        let Some((first, others)) = self.0.split_first() else {
+            return f.write_str("none");
+        };
+        write!(f, "{first}")?;
+        for n in others {
+            write!(f, " {n}")?;
+        }
+        Ok(())
+    }
+}
+
+// The held numbers with one space between, or `none`.
+pub fn held_text(heap: Global, held: &[u32]) -> Result<String, AllocError>
+    ensures { IfOk result (λ text. string_bytes text ≡ held_text held.now) }
+{
+    HeldNumbers(held).to_string(heap)
+}
+
+fn is_plain(byte: u8) -> bool
+    ensures { result ≡ is_plain byte }
+{
+    matches!(byte, 0x20..=0x7E) && byte != b'"' && byte != b'\\'
+}
+
+// A byte of a label: as itself where it is plain, otherwise as `\xNN`.
+#[derive(Drop)]
+struct LabelByte(u8);
+
+impl fmt::Display for LabelByte {
+    ghost output = { λ byte. Some (escaped byte.0) };
+
+    fn fmt<W: fmt::Write>(&self, f: &mut fmt::Formatter<W>) -> fmt::Result {
+        let byte = self.0;
+        if is_plain(byte) {
+            f.write_char(char::from(byte))
+        } else {
+            write!(f, "\\x{byte:02X}")
+        }
+    }
+}
+
+// A label in double quotes.
+#[derive(Drop)]
+struct QuotedLabel<'a>(&'a [u8]);
+
+impl fmt::Display for QuotedLabel<'_> {
+    ghost output = { λ label. Some (quoted label.0.now) };
+
+    fn fmt<W: fmt::Write>(&self, f: &mut fmt::Formatter<W>) -> fmt::Result {
+        f.write_str("\"")?;
+        for byte in self.0 {
+            write!(f, "{}", LabelByte(*byte))?;
+        }
+        f.write_str("\"")
+    }
+}
+
+// The label in double quotes.
+pub fn label_text(heap: Global, label: &[u8]) -> Result<String, AllocError>
+    ensures { IfOk result (λ text. string_bytes text ≡ quoted label.now) }
+{
+    QuotedLabel(label).to_string(heap)
+}
 
 fn version_text(heap: Global, kind: &str, version: Version) -> Result<String, AllocError>
     ensures { IfOk result (λ text. string_bytes text ≡ version_text kind.now version.sector.number version.birth.number) }
@@ -17,106 +90,13 @@ fn version_text(heap: Global, kind: &str, version: Version) -> Result<String, Al
     format!(in heap; "{kind}, sector {sector}, birth {birth}")
 }
 
-// Appends each number with a space before it.
-fn push_spaced(heap: Global, text: &mut String, numbers: &[u32]) -> Result<(), AllocError>
-    ensures { OnOk result (string_bytes text.new ≡ string_bytes text.old ++ spaced numbers.now) }
-{
-    for n in numbers {
-        let part = format!(in heap; " {n}")?;
-        text.push_str(part.as_str())?;
-    }
-    Ok(())
-}
-
-// The held numbers with one space between, or `none`.
-pub fn held_text(heap: Global, held: &[u32]) -> Result<String, AllocError>
-    ensures { IfOk result (λ text. string_bytes text ≡ held_text held.now) }
-{
-    if held.is_empty() {
-        return String::from_str(heap, "none");
-    }
-    let first = held[0];
-    let mut text = format!(in heap; "{first}")?;
-    push_spaced(heap, &mut text, &held[1..])?;
-    Ok(text)
-}
-
-fn hex_digit(n: u8) -> char
-    requires { n < 16 }
-    ensures { result ≡ hex_digit n }
-{
-    if n < 10 {
-        char::from(b'0' + n)
-    } else {
-        char::from(b'7' + n)
-    }
-}
-
-fn is_plain(byte: u8) -> bool
-    ensures { result ≡ is_plain byte }
-{
-    byte >= 0x20 && byte <= 0x7E && byte != b'"' && byte != b'\\'
-}
-
-// A byte that does not stand as itself.
-fn hex_text(heap: Global, byte: u8) -> Result<String, AllocError>
-    ensures { IfOk result (λ text. string_bytes text ≡ 92 ∷ 120 ∷ hex_digit (byte / 16) ∷ hex_digit (byte % 16) ∷ []) }
-{
-    let high = hex_digit(byte / 16);
-    let low = hex_digit(byte % 16);
-    let text = format!(in heap; "\\x{high}{low}")?;
-    Ok(text)
-}
-
-// Appends a byte of a label.
-fn push_escaped(heap: Global, text: &mut String, byte: u8) -> Result<(), AllocError>
-    ensures { OnOk result (string_bytes text.new ≡ string_bytes text.old ++ escaped byte) }
-{
-    if is_plain(byte) {
-        return text.push(char::from(byte));
-    }
-    let hex = hex_text(heap, byte)?;
-    text.push_str(hex.as_str())
-}
-
-fn push_label(heap: Global, text: &mut String, label: &[u8]) -> Result<(), AllocError>
-    ensures { OnOk result (string_bytes text.new ≡ string_bytes text.old ++ escaped_all label.now) }
-{
-    for byte in label {
-        push_escaped(heap, text, *byte)?;
-    }
-    Ok(())
-}
-
-// The label in double quotes.
-pub fn label_text(heap: Global, label: &[u8]) -> Result<String, AllocError>
-    ensures { IfOk result (λ text. string_bytes text ≡ quoted label.now) }
-{
-    let mut text = String::from_str(heap, "\"")?;
-    push_label(heap, &mut text, label)?;
-    text.push_str("\"")?;
-    Ok(text)
-}
-
 fn register_text(heap: Global, register: Register) -> Result<String, AllocError>
     ensures { IfOk result (λ text. string_bytes text ≡ register_text register.birth.number (held_of register.held) (label_of register.label)) }
 {
     let birth = register.birth.number;
-    let held = held_text(heap, register.held.as_slice())?;
-    let label = label_text(heap, register.label.as_slice())?;
-    let text = format!(in heap; "register, birth {birth}, held {held}, label {label}")?;
-    Ok(text)
-}
-
-fn page_text(heap: Global, page: Page) -> Result<Option<String>, AllocError>
-    ensures { IfOk result (λ words. option_map string_bytes words ≡ described (page_meaning page)) }
-{
-    match page {
-        Page::Erased => Ok(None),
-        Page::Data(version) => Ok(Some(version_text(heap, "data", version)?)),
-        Page::Deletion(version) => Ok(Some(version_text(heap, "deletion", version)?)),
-        Page::Register(register) => Ok(Some(register_text(heap, register)?)),
-    }
+    let held = HeldNumbers(register.held.as_slice());
+    let label = QuotedLabel(register.label.as_slice());
+    format!(in heap; "register, birth {birth}, held {held}, label {label}")
 }
 
 fn cause_text(heap: Global, cause: Cause) -> Result<String, AllocError>
@@ -130,8 +110,12 @@ fn cause_text(heap: Global, cause: Cause) -> Result<String, AllocError>
 pub fn describe(heap: Global, checked: Result<Page, Cause>) -> Result<Option<String>, AllocError>
     ensures { IfOk result (λ words. option_map string_bytes words ≡ described (answer checked)) }
 {
-    match checked {
-        Ok(page) => page_text(heap, page),
-        Err(cause) => Ok(Some(cause_text(heap, cause)?)),
-    }
+    let words = match checked {
+        Ok(Page::Erased) => return Ok(None),
+        Ok(Page::Data(version)) => version_text(heap, "data", version)?,
+        Ok(Page::Deletion(version)) => version_text(heap, "deletion", version)?,
+        Ok(Page::Register(register)) => register_text(heap, register)?,
+        Err(cause) => cause_text(heap, cause)?,
+    };
+    Ok(Some(words))
 }

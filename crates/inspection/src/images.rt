@@ -9,11 +9,11 @@ use std::alloc::{AllocError, Global};
 pub fn words_of(heap: Global, bytes: &[u8]) -> Result<Vec<u16>, AllocError>
     ensures { IfOk result (λ words. words.items ≡ words_of bytes.now) }
 {
-    let mut words = Vec::with_capacity(heap, bytes.len() / 2)?;
-    for pair in bytes.chunks_exact(2) {
-        words.push(u16::from_le_bytes([pair[0], pair[1]]))?;
-    }
-    Ok(words)
+    let (pairs, _) = bytes.as_chunks::<2>();
+    pairs
+        .iter()
+        .map(|pair| u16::from_le_bytes(*pair))
+        .collect(heap)
 }
 
 // The bytes of a file that lie beyond the blocks that the chip took of it.

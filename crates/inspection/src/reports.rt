@@ -1,7 +1,6 @@
 // The report on a chip: a line on its shape, a line for each page that is not erased, and a count.
 ghost use Rattle.std.specs.Prelude.{◌≡◌, ◌^◌, ◌<◌, [], ◌++◌, length, IfOk, string_bytes, OnOk, slice_index_or};
-ghost use Rattle.std.specs.Option.{option_map};
-ghost use Rattle.layout.specs.Page.{answer, page_meaning};
+ghost use Rattle.layout.specs.Page.{answer};
 ghost use Rattle.inspection.specs.Arguments.{name_of};
 ghost use Rattle.inspection.specs.Descriptions.{described};
 ghost use Rattle.inspection.specs.Reports.{kind_of, shape_line, page_line, page_lines, none, counted, total, tally_of, tally_line, report_text, report_text_with};
@@ -11,8 +10,10 @@ use crate::descriptions::describe;
 use chip::{Chip, PAGE_BYTES, PageNumber};
 use layout::{Cause, Page, check_page};
 use std::alloc::{AllocError, Global};
+use std::fmt::Write;
 
 // What a page is, or why it is bad.
+#[tactic(auto, unfolding(crate::specs::Reports::kind_of))]
 fn check(page: &[u8; PAGE_BYTES]) -> Result<Page, Cause>
     ensures { answer result ≡ kind_of page.now }
 {
@@ -20,7 +21,7 @@ fn check(page: &[u8; PAGE_BYTES]) -> Result<Page, Cause>
 }
 
 // How many pages of each kind there are.
-#[derive(Clone, Copy)]
+#[derive(Clone, Copy, Default)]
 struct Tally {
     erased: u32,
     versions: u32,
@@ -30,38 +31,16 @@ struct Tally {
 }
 
 impl Tally {
-    fn new() -> Tally
-        ensures { result ≡ none }
-    {
-        Tally {
-            erased: 0,
-            versions: 0,
-            deletions: 0,
-            registers: 0,
-            bad: 0,
-        }
-    }
-
-    // Counts one good page more.
-    fn count_page(&mut self, page: Page)
-        requires { total self.old < 2 ^ 31 }
-        ensures { self.new ≡ counted (page_meaning page) self.old }
-    {
-        match page {
-            Page::Erased => self.erased += 1,
-            Page::Data(_) => self.versions += 1,
-            Page::Deletion(_) => self.deletions += 1,
-            Page::Register(_) => self.registers += 1,
-        }
-    }
-
     // Counts one page more.
     fn count(&mut self, checked: Result<Page, Cause>)
         requires { total self.old < 2 ^ 31 }
         ensures { self.new ≡ counted (answer checked) self.old }
     {
         match checked {
-            Ok(page) => self.count_page(page),
+            Ok(Page::Erased) => self.erased += 1,
+            Ok(Page::Data(_)) => self.versions += 1,
+            Ok(Page::Deletion(_)) => self.deletions += 1,
+            Ok(Page::Register(_)) => self.registers += 1,
             Err(_) => self.bad += 1,
         }
     }
@@ -77,34 +56,31 @@ fn shape_line(
 ) -> Result<String, AllocError>
     ensures { IfOk result (λ text. string_bytes text ≡ shape_line (name_of make) blocks block_pages left_over) }
 {
-    let name = make.name();
     format!(in heap;
-        "{name} chip: {blocks} blocks of {block_pages} pages, {left_over} bytes left over\n"
+        "{make} chip: {blocks} blocks of {block_pages} pages, {left_over} bytes left over\n"
     )
 }
 
-// The line of a page; empty where the page has none.
-fn page_line<C: Chip>(
-    heap: Global,
+// Writes the line of a page; nothing where the page has none.
+fn write_page_line<C: Chip>(
+    text: &mut String,
     number: PageNumber,
     checked: Result<Page, Cause>,
-) -> Result<String, AllocError>
-    ensures { IfOk result (λ text. string_bytes text ≡ page_line C.Chip.per number.0 (described (answer checked))) }
+) -> Result<(), AllocError>
+    ensures { OnOk result (string_bytes text.new ≡ string_bytes text.old ++ page_line C.Chip.per number.0 (described (answer checked))) }
 {
-    match describe(heap, checked)? {
-        Some(words) => {
-            let page = number.0;
-            let (block, place) = C::split(number);
-            let block = block.0;
-            format!(in heap; "page {page}, block {block}, place {place}: {words}\n")
-        }
-        None => Ok(String::new(heap)),
+    if let Some(words) = describe(*text.allocator(), checked)? {
+        let page = number.0;
+        let (block, place) = C::split(number);
+        let block = block.0;
+        writeln!(text, "page {page}, block {block}, place {place}: {words}")?;
     }
+    Ok(())
 }
 
-// The line on the number of pages.
-fn tally_line(heap: Global, pages: u32, tally: Tally) -> Result<String, AllocError>
-    ensures { IfOk result (λ text. string_bytes text ≡ tally_line pages tally) }
+// Writes the line on the number of pages.
+fn write_tally_line(text: &mut String, pages: u32, tally: Tally) -> Result<(), AllocError>
+    ensures { OnOk result (string_bytes text.new ≡ string_bytes text.old ++ tally_line pages tally) }
 {
     let Tally {
         erased,
@@ -113,8 +89,9 @@ fn tally_line(heap: Global, pages: u32, tally: Tally) -> Result<String, AllocErr
         registers,
         bad,
     } = tally;
-    format!(in heap;
-        "{pages} pages: erased {erased}, data {versions}, deletion {deletions}, register {registers}, bad {bad}\n"
+    writeln!(
+        text,
+        "{pages} pages: erased {erased}, data {versions}, deletion {deletions}, register {registers}, bad {bad}"
     )
 }
 
@@ -135,17 +112,16 @@ fn read_page<C: Chip>(chip: &C, number: PageNumber) -> [u8; PAGE_BYTES]
     page
 }
 
-// Appends the lines of the chip's pages, and counts the pages.
-fn push_page_lines<C: Chip>(heap: Global, text: &mut String, chip: &C) -> Result<Tally, AllocError>
+// Writes the lines of the chip's pages, and counts the pages.
+fn write_page_lines<C: Chip>(text: &mut String, chip: &C) -> Result<Tally, AllocError>
     ensures tally { IfOk result (λ tally. tally ≡ tally_of (C.Chip.pages chip.now)) }
     ensures text { OnOk result (string_bytes text.new ≡ string_bytes text.old ++ page_lines C.Chip.per 0 (C.Chip.pages chip.now)) }
 {
-    let mut tally = Tally::new();
+    let mut tally = Tally::default();
     for index in 0..page_count(chip) {
         let number = PageNumber(index);
         let checked = check(&read_page(chip, number));
-        let line = page_line::<C>(heap, number, checked)?;
-        text.push_str(line.as_str())?;
+        write_page_line::<C>(text, number, checked)?;
         tally.count(checked);
     }
     Ok(tally)
@@ -160,11 +136,7 @@ pub fn report<C: Chip>(
 ) -> Result<String, AllocError>
     ensures { IfOk result (λ text. string_bytes text ≡ report_text (name_of make) (C.Chip.blocks chip.now) C.Chip.per left_over (C.Chip.pages chip.now)) }
 {
-    let mut text = shape_line(heap, make, chip.size(), C::block_pages(), left_over)?;
-    let tally = push_page_lines(heap, &mut text, chip)?;
-    let last = tally_line(heap, page_count(chip), tally)?;
-    text.push_str(last.as_str())?;
-    Ok(text)
+    report_with(heap, make, left_over, chip, "")
 }
 
 // All that is said of a chip where lines are given that stand between the lines of pages and the count.
@@ -177,11 +149,9 @@ pub fn report_with<C: Chip>(
 ) -> Result<String, AllocError>
     ensures { IfOk result (λ text. string_bytes text ≡ report_text_with (name_of make) (C.Chip.blocks chip.now) C.Chip.per left_over (C.Chip.pages chip.now) middle.now) }
 {
-    let blocks = chip.size();
-    let mut text = shape_line(heap, make, blocks, C::block_pages(), left_over)?;
-    let tally = push_page_lines(heap, &mut text, chip)?;
+    let mut text = shape_line(heap, make, chip.size(), C::block_pages(), left_over)?;
+    let tally = write_page_lines(&mut text, chip)?;
     text.push_str(middle)?;
-    let last = tally_line(heap, page_count(chip), tally)?;
-    text.push_str(last.as_str())?;
+    write_tally_line(&mut text, page_count(chip), tally)?;
     Ok(text)
 }

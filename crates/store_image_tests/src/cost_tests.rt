@@ -1,6 +1,7 @@
 // How many reads, programs and erases of the chip a call costs.
 use chip::Chip;
 use nor::{BLOCK_WORDS, Nor};
+use std::array;
 use std::test::Fail;
 use store::Store;
 use test_chips::Counting;
@@ -11,38 +12,22 @@ fn counts<C: Chip>(chip: &Counting<C>) -> [u32; 3] {
     [chip.reads(), chip.programs(), chip.erases()]
 }
 
-// What was counted since.
-fn since_then<C: Chip>(chip: &Counting<C>, before: [u32; 3]) -> [u32; 3] {
-    let [reads, programs, erases] = before;
-    [
-        chip.reads().wrapping_sub(reads),
-        chip.programs().wrapping_sub(programs),
-        chip.erases().wrapping_sub(erases),
-    ]
+fn minus(counts: [u32; 3], before: [u32; 3]) -> [u32; 3] {
+    array::from_fn(|i| counts[i].wrapping_sub(before[i]))
 }
 
-// What mount costs.
-fn mount_cost<C: Chip>(chip: Counting<C>) -> (Counting<C>, [u32; 3]) {
-    let before = counts(&chip);
-    let mut store = Store::new(chip);
-    let _ = store.mount();
-    let chip = store.unmount();
-    let cost = since_then(&chip, before);
-    (chip, cost)
-}
-
-// What mount and then a step cost.
-fn step_cost<C: Chip + Drop>(
+// What mount and then the steps cost.
+fn cost_of<C: Chip + Drop>(
     chip: Counting<C>,
-    step: Step<'_>,
+    steps: &[Step<'_>],
 ) -> Result<(Counting<C>, [u32; 3]), Fail> {
     let before = counts(&chip);
     let mut store = Store::new(chip);
     let _ = store.mount();
-    let end = play(&mut store, &[step]);
+    let end = play(&mut store, steps);
     let chip = store.unmount();
     end?;
-    let cost = since_then(&chip, before);
+    let cost = minus(counts(&chip), before);
     Ok((chip, cost))
 }
 
@@ -51,47 +36,36 @@ fn check_costs<C: Chip + Drop>(
     chip: Counting<C>,
     table: &[(Step<'_>, [u32; 3])],
 ) -> Result<(), Fail> {
-    let (mut chip, [reads, programs, erases]) = mount_cost(chip);
-    check(reads == 16 || reads == 17)?;
-    check_eq([programs, erases], [0, 0])?;
-    for (step, cost) in table {
-        let (next, [all, programs, erases]) = step_cost(chip, *step)?;
+    let (mut chip, mount) = cost_of(chip, &[])?;
+    check(matches!(mount, [16 | 17, 0, 0]))?;
+    for (step, wanted) in table {
+        let (next, cost) = cost_of(chip, &[*step])?;
         chip = next;
-        check_eq([all.wrapping_sub(reads), programs, erases], *cost)?;
+        check_eq(minus(cost, mount), *wanted)?;
     }
     Ok(())
-}
-
-// Sector 1 and its state 3, then sectors 1 and 2 anew.
-fn make<C: Chip>(store: &mut Store<C>) -> Result<(), Fail> {
-    play(
-        store,
-        &[
-            Format(b"", Ok(1)),
-            Write(1, 65, Ok(2)),
-            Freeze(Ok(3)),
-            Write(1, 66, Ok(4)),
-            Write(2, 67, Ok(5)),
-        ],
-    )
 }
 
 #[test]
 fn queries_read_one_page_at_most_and_refusals_none() -> Result<(), Fail> {
     let mut words = [0xFFFFu16; 2 * BLOCK_WORDS];
-    let mut store = Store::new(Counting::new(Nor::new(&mut words)));
-    let end = make(&mut store);
-    let chip = store.unmount();
-    end?;
+    // Sector 1 and its state 3, then sectors 1 and 2 anew.
+    let steps = [
+        Format(b"", Ok(1)),
+        Write(1, 65, Ok(2)),
+        Freeze(Ok(3)),
+        Write(1, 66, Ok(4)),
+        Write(2, 67, Ok(5)),
+    ];
     check_costs(
-        chip,
+        played_on(Counting::new(Nor::new(&mut words)), &steps)?,
         &[
             (Read(1, 66), [1, 0, 0]),
             (Look(3, 1, 65), [1, 0, 0]),
             (ReadEmpty(9), [0, 0, 0]),
             (LookEmpty(3, 2), [0, 0, 0]),
-            (Since(1, Ok(4)), [0, 0, 0]),
-            (SinceIn(3, 1, Ok(2)), [0, 0, 0]),
+            (Since(1, Ok(Some(4))), [0, 0, 0]),
+            (SinceIn(3, 1, Ok(Some(2))), [0, 0, 0]),
             (Count(Ok((3, 6))), [0, 0, 0]),
             (Held(&[3]), [0, 0, 0]),
             (Label(b""), [0, 0, 0]),
@@ -105,7 +79,7 @@ fn queries_read_one_page_at_most_and_refusals_none() -> Result<(), Fail> {
             (SinceIn(4, 1, Err(9)), [0, 0, 0]),
             (Format(b"", Err(1)), [0, 0, 0]),
             (Mount(Err(1)), [0, 0, 0]),
-            (Close(Ok(0)), [0, 0, 0]),
+            (Close(Ok(())), [0, 0, 0]),
         ],
     )
 }
@@ -113,12 +87,9 @@ fn queries_read_one_page_at_most_and_refusals_none() -> Result<(), Fail> {
 #[test]
 fn a_change_programs_one_page_where_there_is_room() -> Result<(), Fail> {
     let mut words = [0xFFFFu16; 2 * BLOCK_WORDS];
-    let mut store = Store::new(Counting::new(Nor::new(&mut words)));
-    let end = play(&mut store, &[Format(b"", Ok(1))]);
-    let chip = store.unmount();
-    end?;
+    let steps = [Format(b"", Ok(1))];
     check_costs(
-        chip,
+        played_on(Counting::new(Nor::new(&mut words)), &steps)?,
         &[
             (Held(&[]), [0, 0, 0]),
             (Write(1, 65, Ok(2)), [0, 1, 0]),
@@ -130,33 +101,23 @@ fn a_change_programs_one_page_where_there_is_room() -> Result<(), Fail> {
     )
 }
 
-// Six needed versions, a register and a stale page fill a block of 8.
-fn fill<C: Chip>(store: &mut Store<C>) -> Result<(), Fail> {
-    play(
-        store,
-        &[
-            Format(b"", Ok(1)),
-            Write(0, 65, Ok(2)),
-            Write(1, 66, Ok(3)),
-            Write(2, 67, Ok(4)),
-            Write(3, 68, Ok(5)),
-            Write(4, 69, Ok(6)),
-            Write(5, 70, Ok(7)),
-            Write(0, 71, Ok(8)),
-        ],
-    )
-}
-
 // Seven pages are copied, and one is new.
 #[test]
 fn a_change_cleans_one_block_where_there_is_no_room() -> Result<(), Fail> {
     let mut words = [0xFFFFu16; 2 * BLOCK_WORDS];
-    let mut store = Store::new(Counting::new(Nor::new(&mut words)));
-    let end = fill(&mut store);
-    let chip = store.unmount();
-    end?;
+    // Six needed versions, a register and a stale page fill a block of 8.
+    let steps = [
+        Format(b"", Ok(1)),
+        Write(0, 65, Ok(2)),
+        Write(1, 66, Ok(3)),
+        Write(2, 67, Ok(4)),
+        Write(3, 68, Ok(5)),
+        Write(4, 69, Ok(6)),
+        Write(5, 70, Ok(7)),
+        Write(0, 71, Ok(8)),
+    ];
     check_costs(
-        chip,
+        played_on(Counting::new(Nor::new(&mut words)), &steps)?,
         &[
             (Write(0, 72, Ok(9)), [7, 8, 1]),
             (Write(6, 73, Err(12)), [0, 0, 0]),

@@ -1,6 +1,8 @@
 // The last two ticks of the clock.
 use chip::Chip;
 use nor::{BLOCK_WORDS, Nor};
+use refusals::Refusal;
+use rules::Tick;
 use std::test::Fail;
 use store::{Slip, Store};
 use test_hands::Step::*;
@@ -35,7 +37,7 @@ fn the_last_tick_is_given_once() -> Result<(), Fail> {
             Read(1, 66),
             Look(5, 1, 65),
             Held(&[5]),
-            Close(Ok(0)),
+            Close(Ok(())),
             Mount(Ok(LAST)),
             Read(1, 66),
             Held(&[5]),
@@ -80,53 +82,54 @@ fn the_clock_comes_after_the_held_numbers_and_before_the_room() -> Result<(), Fa
 }
 
 // A slip of the number 5, from another store.
-fn slip_of_five<C: Chip>(store: &mut Store<C>) -> Option<Slip> {
-    let _ = store.format(b"");
-    for _ in 0..3 {
-        let _ = store.freeze();
-    }
-    match store.open() {
-        Ok(slip) => Some(slip),
-        Err(_) => None,
-    }
+fn slip_of_five<C: Chip>(store: &mut Store<C>) -> Result<Slip, Fail> {
+    play(
+        store,
+        &[
+            Format(b"", Ok(1)),
+            Freeze(Ok(2)),
+            Freeze(Ok(3)),
+            Freeze(Ok(4)),
+        ],
+    )?;
+    Ok(store.open()?)
 }
 
-fn spend_at_the_end<A: Chip, B: Chip>(
+fn spend_at_the_end<A: Chip, B: Chip, F: FnOnce(&mut Store<A>, Slip) -> Result<Tick, Refusal>>(
     store: &mut Store<A>,
     other: &mut Store<B>,
-    goes_back: bool,
-) -> Result<(), Fail> {
+    spend: F,
+) -> Result<(), Fail>
+    requires { F.IsAlwaysCallable spend }
+{
     play(store, &[Mount(Ok(LAST - 1)), Write(1, 66, Ok(LAST))])?;
-    let Some(slip) = slip_of_five(other) else {
-        return Err(Fail::new("open is refused"));
-    };
+    let slip = slip_of_five(other)?;
     let number = slip.number().0;
-    let answer = if goes_back {
-        store.back(slip)
-    } else {
-        store.keep(slip)
-    };
-    check_eq((number, tick(answer)), (5, Err(11)))?;
+    check_eq((number, tick(spend(store, slip))), (5, Err(11)))?;
     play(
         store,
         &[
             Held(&[5]),
             Read(1, 66),
-            Close(Ok(0)),
+            Close(Ok(())),
             Mount(Ok(LAST)),
             Held(&[5]),
         ],
     )
 }
 
-fn slip_at_the_end(goes_back: bool) -> Result<(), Fail> {
+fn slip_at_the_end<F: FnOnce(&mut Store<Nor<'_>>, Slip) -> Result<Tick, Refusal>>(
+    spend: F,
+) -> Result<(), Fail>
+    requires { F.IsAlwaysCallable spend }
+{
     let mut words = [0xFFFFu16; 2 * BLOCK_WORDS];
     let mut others = [0xFFFFu16; 2 * BLOCK_WORDS];
     let mut chip = Nor::new(&mut words);
     craft(&mut chip, &[5])?;
     let mut store = Store::new(chip);
     let mut other = Store::new(Nor::new(&mut others));
-    let end = spend_at_the_end(&mut store, &mut other, goes_back);
+    let end = spend_at_the_end(&mut store, &mut other, spend);
     let _ = store.unmount();
     let _ = other.unmount();
     end
@@ -134,6 +137,6 @@ fn slip_at_the_end(goes_back: bool) -> Result<(), Fail> {
 
 #[test]
 fn a_slip_refused_by_the_clock_is_spent_and_its_number_stays() -> Result<(), Fail> {
-    slip_at_the_end(false)?;
-    slip_at_the_end(true)
+    slip_at_the_end(|store, slip| store.keep(slip))?;
+    slip_at_the_end(|store, slip| store.back(slip))
 }

@@ -1,5 +1,5 @@
 // Why mount refuses a chip.
-use crate::verdicts::verdict;
+use crate::verdicts::{Verdict, verdict};
 use chip::PAGE_BYTES;
 use std::test::Fail;
 use test_hands::{changed, check_eq, data_page, deletion_page, register_page};
@@ -7,7 +7,10 @@ use test_hands::{changed, check_eq, data_page, deletion_page, register_page};
 // A bad page on page 9, beside a good register.
 fn check_cause(bad: [u8; PAGE_BYTES], cause: u8) -> Result<(), Fail> {
     let register = register_page(8, &[3])?;
-    check_eq(verdict(4, &[(0, register), (9, bad)])?, (5, 9, cause))
+    check_eq(
+        verdict(4, &[(0, register), (9, bad)])?,
+        Err((5, Some((9, cause)))),
+    )
 }
 
 #[test]
@@ -50,20 +53,23 @@ fn the_lowest_bad_page_is_told() -> Result<(), Fail> {
     let last = changed(data_page(5, 2, 65)?, 512, 0);
     check_eq(
         verdict(4, &[(0, register), (11, high), (10, low)])?,
-        (5, 10, 31),
+        Err((5, Some((10, 31)))),
     )?;
-    check_eq(verdict(4, &[(31, last), (0, register)])?, (5, 31, 30))?;
-    check_eq(verdict(3, &[(31, last), (0, register)])?, (0, 8, 0))
+    check_eq(
+        verdict(4, &[(31, last), (0, register)])?,
+        Err((5, Some((31, 30)))),
+    )?;
+    check_eq(verdict(3, &[(31, last), (0, register)])?, Ok(8))
 }
 
 #[test]
 fn without_a_register_there_is_no_store() -> Result<(), Fail> {
     let data = data_page(5, 2, 65)?;
-    check_eq(verdict(4, &[])?, (6, 0, 0))?;
-    check_eq(verdict(4, &[(0, data)])?, (6, 0, 0))?;
+    check_eq(verdict(4, &[])?, Err((6, None)))?;
+    check_eq(verdict(4, &[(0, data)])?, Err((6, None)))?;
     check_eq(
         verdict(4, &[(0, data), (1, register_page(1, &[])?)])?,
-        (0, 2, 0),
+        Ok(2),
     )
 }
 
@@ -72,13 +78,13 @@ fn without_a_register_there_is_no_store() -> Result<(), Fail> {
 fn no_birth_stands_twice() -> Result<(), Fail> {
     let register = register_page(8, &[])?;
     let one = data_page(5, 8, 65)?;
-    check_eq(verdict(4, &[(0, register), (9, one)])?, (6, 0, 0))?;
+    check_eq(verdict(4, &[(0, register), (9, one)])?, Err((6, None)))?;
     let old = data_page(5, 2, 65)?;
     let new = data_page(5, 3, 66)?;
     let other = data_page(6, 2, 67)?;
     let newer = deletion_page(6, 4)?;
     let stale = [(0, register), (1, old), (2, new), (9, other), (10, newer)];
-    check_eq(verdict(4, &stale)?, (6, 0, 0))?;
+    check_eq(verdict(4, &stale)?, Err((6, None)))?;
     let fine = [
         (0, register),
         (1, old),
@@ -86,11 +92,11 @@ fn no_birth_stands_twice() -> Result<(), Fail> {
         (9, data_page(6, 1, 67)?),
         (10, newer),
     ];
-    check_eq(verdict(4, &fine)?, (0, 8, 0))?;
+    check_eq(verdict(4, &fine)?, Ok(8))?;
     let former = register_page(7, &[])?;
     check_eq(
         verdict(4, &[(0, former), (1, former), (2, register)])?,
-        (6, 0, 0),
+        Err((6, None)),
     )
 }
 
@@ -98,13 +104,13 @@ fn no_birth_stands_twice() -> Result<(), Fail> {
 fn one_block_is_wholly_erased() -> Result<(), Fail> {
     let register = register_page(1, &[])?;
     let data = data_page(5, 2, 65)?;
-    check_eq(verdict(2, &[(0, register), (15, data)])?, (6, 0, 0))?;
-    check_eq(verdict(2, &[(0, register), (7, data)])?, (0, 2, 0))?;
-    check_eq(verdict(3, &[(0, register), (15, data)])?, (0, 2, 0))
+    check_eq(verdict(2, &[(0, register), (15, data)])?, Err((6, None)))?;
+    check_eq(verdict(2, &[(0, register), (7, data)])?, Ok(2))?;
+    check_eq(verdict(3, &[(0, register), (15, data)])?, Ok(2))
 }
 
 // Sectors 1 to 6 and one more version on two blocks, whose capacity is 6.
-fn seven_versions(last: [u8; PAGE_BYTES], held: &[u32]) -> Result<(u8, u32, u8), Fail> {
+fn seven_versions(last: [u8; PAGE_BYTES], held: &[u32]) -> Result<Verdict, Fail> {
     let pages = [
         (0, register_page(9, held)?),
         (1, data_page(1, 1, 65)?),
@@ -120,18 +126,18 @@ fn seven_versions(last: [u8; PAGE_BYTES], held: &[u32]) -> Result<(u8, u32, u8),
 
 #[test]
 fn more_versions_than_the_capacity_are_no_store() -> Result<(), Fail> {
-    check_eq(seven_versions(data_page(7, 7, 71)?, &[])?, (6, 0, 0))?;
-    check_eq(seven_versions(data_page(6, 7, 71)?, &[])?, (0, 9, 0))?;
-    check_eq(seven_versions(data_page(6, 7, 71)?, &[6])?, (6, 0, 0))?;
-    check_eq(seven_versions(data_page(6, 7, 71)?, &[5])?, (0, 9, 0))
+    check_eq(seven_versions(data_page(7, 7, 71)?, &[])?, Err((6, None)))?;
+    check_eq(seven_versions(data_page(6, 7, 71)?, &[])?, Ok(9))?;
+    check_eq(seven_versions(data_page(6, 7, 71)?, &[6])?, Err((6, None)))?;
+    check_eq(seven_versions(data_page(6, 7, 71)?, &[5])?, Ok(9))
 }
 
 // Size, then pages, then the rest.
 #[test]
 fn the_grounds_of_refusal_have_an_order() -> Result<(), Fail> {
     let bad = [0; PAGE_BYTES];
-    check_eq(verdict(1, &[(3, bad)])?, (3, 0, 0))?;
-    check_eq(verdict(2, &[(3, bad)])?, (5, 3, 30))?;
-    check_eq(verdict(1, &[(0, register_page(1, &[])?)])?, (3, 0, 0))?;
-    check_eq(verdict(2, &[])?, (6, 0, 0))
+    check_eq(verdict(1, &[(3, bad)])?, Err((3, None)))?;
+    check_eq(verdict(2, &[(3, bad)])?, Err((5, Some((3, 30)))))?;
+    check_eq(verdict(1, &[(0, register_page(1, &[])?)])?, Err((3, None)))?;
+    check_eq(verdict(2, &[])?, Err((6, None)))
 }

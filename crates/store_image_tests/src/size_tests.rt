@@ -19,7 +19,7 @@ fn pages_are_2048_at_most(rt: HostRuntime) -> Result<(), Fail> {
         &[
             Format(b"", Ok(1)),
             Write(2047, 65, Ok(2)),
-            Close(Ok(0)),
+            Close(Ok(())),
             Mount(Ok(2)),
             Read(2047, 65),
             Count(Ok((1, 2038))),
@@ -32,7 +32,7 @@ fn pages_are_2048_at_most(rt: HostRuntime) -> Result<(), Fail> {
 fn size_is_looked_at_before_pages(rt: HostRuntime) -> Result<(), Fail> {
     let mut words = vec![in rt.alloc(); 0xFFFFu16; 257 * BLOCK_WORDS]?;
     put(&mut Nor::new(words.as_mut_slice()), 2047, &[0; PAGE_BYTES])?;
-    check_eq(mounted(Nor::new(words.as_mut_slice())), (3, 0, 0))?;
+    check_eq(mounted(Nor::new(words.as_mut_slice())), Err((3, None)))?;
     let part = Partition::new(Nor::new(words.as_mut_slice()), BlockNumber(0), 256);
-    check_eq(mounted(part), (5, 2047, 30))
+    check_eq(mounted(part), Err((5, Some((2047, 30)))))
 }

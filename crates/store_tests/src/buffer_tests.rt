@@ -1,4 +1,5 @@
 // What the calls leave in a buffer.
+use crate::hands::on_store;
 use chip::{Chip, SectorNumber};
 use nor::{BLOCK_WORDS, Nor};
 use rules::Tick;
@@ -7,13 +8,9 @@ use store::Store;
 use test_hands::Step::*;
 use test_hands::*;
 
+// Of buffers of the right lengths, with the number of the refusal.
 fn read_is_refused<C: Chip>(store: &Store<C>, sector: u32, number: u8) -> Result<(), Fail> {
-    let mut buffer = [9u8; 512];
-    check_eq(
-        data(store.read(SectorNumber(sector), &mut buffer)),
-        Err(number),
-    )?;
-    check(buffer == [9u8; 512])
+    check_eq(read(store, sector, [9; 512]), (Err(number), [9; 512]))
 }
 
 fn look_is_refused<C: Chip>(
@@ -22,10 +19,15 @@ fn look_is_refused<C: Chip>(
     sector: u32,
     number: u8,
 ) -> Result<(), Fail> {
-    let mut buffer = [9u8; 512];
-    let answer = store.look(Tick(state), SectorNumber(sector), &mut buffer);
-    check_eq(data(answer), Err(number))?;
-    check(buffer == [9u8; 512])
+    check_eq(
+        look(store, state, sector, [9; 512]),
+        (Err(number), [9; 512]),
+    )
+}
+
+fn right_lengths_when_closed<C: Chip>(store: &Store<C>) -> Result<(), Fail> {
+    check_eq(label(store, [9; 32]), (Err(2), [9; 32]))?;
+    check_eq(held(store, [9; 8]), (Err(2), [9; 8]))
 }
 
 // Buffers that are too long or too short, by the number of the refusal.
@@ -33,21 +35,14 @@ fn lengths_are_refused<C: Chip>(store: &Store<C>, number: u8) -> Result<(), Fail
     let mut long = [9u8; 513];
     let mut short = [9u8; 31];
     let mut few = [9u32; 7];
-    check_eq(data(store.read(SectorNumber(5), &mut long)), Err(number))?;
-    let answer = store.look(Tick(0), SectorNumber(5), &mut long);
-    check_eq(data(answer), Err(number))?;
-    check_eq(size(store.label(&mut short)), Err(number))?;
-    check_eq(size(store.label(&mut long)), Err(number))?;
-    check_eq(size(store.held(&mut few)), Err(number))?;
+    let read = store.read(SectorNumber(5), &mut long);
+    check_eq(numbered(read), Err(number))?;
+    let look = store.look(Tick(0), SectorNumber(5), &mut long);
+    check_eq(numbered(look), Err(number))?;
+    check_eq(numbered(store.label(&mut short)), Err(number))?;
+    check_eq(numbered(store.label(&mut long)), Err(number))?;
+    check_eq(numbered(store.held(&mut few)), Err(number))?;
     check(long == [9u8; 513] && short == [9u8; 31] && few == [9u32; 7])
-}
-
-fn right_lengths_when_closed<C: Chip>(store: &Store<C>) -> Result<(), Fail> {
-    let mut label = [9u8; 32];
-    let mut held = [9u32; 8];
-    check_eq(size(store.label(&mut label)), Err(2))?;
-    check_eq(size(store.held(&mut held)), Err(2))?;
-    check(label == [9u8; 32] && held == [9u32; 8])
 }
 
 fn refusals<C: Chip>(store: &mut Store<C>) -> Result<(), Fail> {
@@ -71,10 +66,7 @@ fn refusals<C: Chip>(store: &mut Store<C>) -> Result<(), Fail> {
 #[test]
 fn a_refusal_leaves_the_buffer_as_it_was() -> Result<(), Fail> {
     let mut words = [0xFFFFu16; 2 * BLOCK_WORDS];
-    let mut store = Store::new(Nor::new(&mut words));
-    let end = refusals(&mut store);
-    let _ = store.unmount();
-    end
+    on_store(Nor::new(&mut words), refusals)
 }
 
 // A sector that does not exist is told before a length.
@@ -90,10 +82,7 @@ fn lengths_of_writes<C: Chip>(store: &mut Store<C>) -> Result<(), Fail> {
 #[test]
 fn a_write_takes_512_bytes() -> Result<(), Fail> {
     let mut words = [0xFFFFu16; 2 * BLOCK_WORDS];
-    let mut store = Store::new(Nor::new(&mut words));
-    let end = lengths_of_writes(&mut store);
-    let _ = store.unmount();
-    end
+    on_store(Nor::new(&mut words), lengths_of_writes)
 }
 
 // The buffers of these steps are filled before.

@@ -1,4 +1,5 @@
 // A day of calls, on chips of two makes.
+use crate::hands::{on_store, slip_around};
 use chip::{BlockNumber, Chip, PAGE_BYTES, PageNumber};
 use nand::{BLOCK_BYTES, Nand};
 use nor::{BLOCK_WORDS, Nor};
@@ -20,18 +21,18 @@ fn morning<C: Chip>(store: &mut Store<C>, capacity: usize) -> Result<(), Fail> {
             Read(3, 66),
             Look(3, 3, 65),
             LookEmpty(3, 4),
-            Since(3, Ok(4)),
-            SinceIn(3, 3, Ok(2)),
-            SinceIn(3, 4, Ok(0)),
+            Since(3, Ok(Some(4))),
+            SinceIn(3, 3, Ok(Some(2))),
+            SinceIn(3, 4, Ok(None)),
             Count(Ok((3, capacity))),
             Delete(4, Ok(6)),
             Delete(4, Ok(6)),
             ReadEmpty(4),
-            Since(4, Ok(0)),
+            Since(4, Ok(None)),
             Count(Ok((3, capacity))),
             Revert(3, Ok(7)),
             Read(3, 65),
-            Since(3, Ok(2)),
+            Since(3, Ok(Some(2))),
             ReadEmpty(4),
             Held(&[3]),
             Count(Ok((1, capacity))),
@@ -41,41 +42,26 @@ fn morning<C: Chip>(store: &mut Store<C>, capacity: usize) -> Result<(), Fail> {
 
 // A slip of 8 is spent by back: the write after it is gone.
 fn noon<C: Chip>(store: &mut Store<C>) -> Result<(), Fail> {
-    let Ok(slip) = store.open() else {
-        return Err(Fail::new("open is refused"));
-    };
-    let number = slip.number().0;
-    let written = write(store, 3, 68);
-    let answer = tick(store.back(slip));
-    check_eq(number, 8)?;
-    check_eq(written, Ok(9))?;
-    check_eq(answer, Ok(10))?;
+    check_eq(
+        slip_around(store, |store| write(store, 3, 68), Store::back)?,
+        (8, Ok(9), Ok(10)),
+    )?;
     play(store, &[Read(3, 65), Held(&[3])])
 }
 
 // A slip of 11 is spent by keep: the write after it stays.
 fn evening<C: Chip>(store: &mut Store<C>) -> Result<(), Fail> {
-    let Ok(slip) = store.open() else {
-        return Err(Fail::new("open is refused"));
-    };
-    let number = slip.number().0;
-    let written = write(store, 5, 69);
-    let answer = tick(store.keep(slip));
-    check_eq(number, 11)?;
-    check_eq(written, Ok(12))?;
-    check_eq(answer, Ok(13))?;
+    check_eq(
+        slip_around(store, |store| write(store, 5, 69), Store::keep)?,
+        (11, Ok(12), Ok(13)),
+    )?;
     play(store, &[Read(5, 69), Held(&[3])])
 }
 
 // Cleans until nothing is stale.
 fn tidy<C: Chip>(store: &mut Store<C>) -> Result<(), Fail> {
     check_ne(clean(store), Ok(0))?;
-    for _ in 0..4 {
-        if clean(store) == Ok(0) {
-            return Ok(());
-        }
-    }
-    Err(Fail::new("cleaning has no end"))
+    check((0..4).any(|_| clean(store) == Ok(0)))
 }
 
 fn night<C: Chip>(store: &mut Store<C>, capacity: usize) -> Result<(), Fail> {
@@ -84,7 +70,7 @@ fn night<C: Chip>(store: &mut Store<C>, capacity: usize) -> Result<(), Fail> {
     play(
         store,
         &[
-            Close(Ok(0)),
+            Close(Ok(())),
             Count(Err(2)),
             Mount(Ok(14)),
             Read(3, 65),
@@ -107,10 +93,7 @@ fn day<C: Chip>(store: &mut Store<C>, capacity: usize) -> Result<(), Fail> {
 #[test]
 fn a_day_on_nand() -> Result<(), Fail> {
     let mut bytes = [0xFFu8; 3 * BLOCK_BYTES];
-    let mut store = Store::new(Nand::new(&mut bytes));
-    let end = day(&mut store, 62);
-    let _ = store.unmount();
-    end
+    on_store(Nand::new(&mut bytes), |store| day(store, 62))
 }
 
 // The blocks beside the partition stay as they were.
@@ -126,7 +109,7 @@ fn a_day_on_a_partition_of_nor() -> Result<(), Fail> {
     end?;
     let mut before = [0; PAGE_BYTES];
     let mut after = [0; PAGE_BYTES];
-    check(chip.read(PageNumber(7), &mut before).is_ok())?;
-    check(chip.read(PageNumber(32), &mut after).is_ok())?;
+    chip.read(PageNumber(7), &mut before)?;
+    chip.read(PageNumber(32), &mut after)?;
     check(before == [17; PAGE_BYTES] && after == [18; PAGE_BYTES])
 }

@@ -6,6 +6,8 @@ mod buffer_tests;
 #[cfg(test)]
 mod day_tests;
 #[cfg(test)]
+mod hands;
+#[cfg(test)]
 mod limits_tests;
 #[cfg(test)]
 mod register_tests;

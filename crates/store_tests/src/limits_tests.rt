@@ -70,7 +70,7 @@ fn numbers_that_are_not_held_are_refused() -> Result<(), Fail> {
             Revert(u32::MAX, Err(9)),
             SinceIn(u32::MAX, 0, Err(9)),
             Held(&[2]),
-            SinceIn(2, 0, Ok(0)),
+            SinceIn(2, 0, Ok(None)),
         ],
     )
 }
@@ -116,7 +116,7 @@ fn an_open_store_is_not_opened_and_a_closed_one_does_nothing() -> Result<(), Fai
             Format(b"", Ok(1)),
             Format(&[75; 33], Err(1)),
             Mount(Err(1)),
-            Close(Ok(0)),
+            Close(Ok(())),
             Close(Err(2)),
             Write(2048, 65, Err(2)),
             Delete(2048, Err(2)),

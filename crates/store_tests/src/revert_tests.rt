@@ -1,4 +1,5 @@
 // Going back to a frozen state.
+use crate::hands::on_store;
 use chip::Chip;
 use nor::{BLOCK_WORDS, Nor};
 use std::test::Fail;
@@ -10,8 +11,8 @@ use test_hands::*;
 fn freeze_ten_sectors<C: Chip>(store: &mut Store<C>) -> Result<(), Fail> {
     play(store, &[Format(b"ten", Ok(1))])?;
     for sector in 0..10u8 {
-        let clock = sector as u32 + 2;
-        play(store, &[Write(sector as u32, 100 + sector, Ok(clock))])?;
+        let clock = u32::from(sector) + 2;
+        play(store, &[Write(u32::from(sector), 100 + sector, Ok(clock))])?;
     }
     play(store, &[Freeze(Ok(12))])
 }
@@ -41,12 +42,12 @@ fn overwrite<C: Chip>(store: &mut Store<C>) -> Result<(), Fail> {
 
 fn ten_sectors_are_as_frozen<C: Chip>(store: &mut Store<C>) -> Result<(), Fail> {
     for sector in 0..10u8 {
-        let clock = sector as u32 + 2;
+        let clock = u32::from(sector) + 2;
         play(
             store,
             &[
-                Read(sector as u32, 100 + sector),
-                Since(sector as u32, Ok(clock)),
+                Read(u32::from(sector), 100 + sector),
+                Since(u32::from(sector), Ok(Some(clock))),
             ],
         )?;
     }
@@ -56,7 +57,7 @@ fn ten_sectors_are_as_frozen<C: Chip>(store: &mut Store<C>) -> Result<(), Fail> 
 fn revert_and_mount<C: Chip>(store: &mut Store<C>) -> Result<(), Fail> {
     play(store, &[Revert(12, Ok(613))])?;
     ten_sectors_are_as_frozen(store)?;
-    play(store, &[Close(Ok(0)), Mount(Ok(613))])?;
+    play(store, &[Close(Ok(())), Mount(Ok(613))])?;
     ten_sectors_are_as_frozen(store)
 }
 
@@ -69,10 +70,7 @@ fn incident<C: Chip>(store: &mut Store<C>) -> Result<(), Fail> {
 #[test]
 fn a_frozen_state_outlives_300_writes_and_deletes() -> Result<(), Fail> {
     let mut words = [0xFFFFu16; 4 * BLOCK_WORDS];
-    let mut store = Store::new(Nor::new(&mut words));
-    let end = incident(&mut store);
-    let _ = store.unmount();
-    end
+    on_store(Nor::new(&mut words), incident)
 }
 
 fn overwritten<C: Chip>(store: &mut Store<C>) -> Result<(), Fail> {
@@ -88,10 +86,7 @@ fn overwritten<C: Chip>(store: &mut Store<C>) -> Result<(), Fail> {
 #[test]
 fn a_frozen_state_outlives_changes_of_its_sectors() -> Result<(), Fail> {
     let mut words = [0xFFFFu16; 4 * BLOCK_WORDS];
-    let mut store = Store::new(Nor::new(&mut words));
-    let end = overwritten(&mut store);
-    let _ = store.unmount();
-    end
+    on_store(Nor::new(&mut words), overwritten)
 }
 
 #[test]
@@ -108,10 +103,10 @@ fn what_a_revert_took_does_not_come_back_at_mount() -> Result<(), Fail> {
             Revert(3, Ok(6)),
             Read(5, 65),
             Count(Ok((1, 22))),
-            Close(Ok(0)),
+            Close(Ok(())),
             Mount(Ok(6)),
             Read(5, 65),
-            Since(5, Ok(2)),
+            Since(5, Ok(Some(2))),
             Held(&[3]),
             Count(Ok((1, 22))),
         ],

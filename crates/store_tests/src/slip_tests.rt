@@ -1,4 +1,5 @@
 // Slips, spent by keep and back.
+use crate::hands::{on_store, slip_around};
 use chip::Chip;
 use nor::{BLOCK_WORDS, Nor};
 use std::test::Fail;
@@ -21,9 +22,7 @@ fn state_three<C: Chip>(store: &mut Store<C>) -> Result<(), Fail> {
 fn spend_elsewhere<A: Chip, B: Chip>(one: &mut Store<A>, other: &mut Store<B>) -> Result<(), Fail> {
     state_three(other)?;
     play(one, &[Format(b"", Ok(1)), Write(5, 67, Ok(2))])?;
-    let Ok(slip) = one.open() else {
-        return Err(Fail::new("open is refused"));
-    };
+    let slip = one.open()?;
     let number = slip.number().0;
     let answer = tick(other.back(slip));
     check_eq((number, answer), (3, Ok(5)))?;
@@ -46,86 +45,67 @@ fn a_slip_of_another_store_is_honoured_by_its_number() -> Result<(), Fail> {
 // The number 5 is released before its slip is spent.
 fn keep_too_late<C: Chip>(store: &mut Store<C>) -> Result<(), Fail> {
     state_three(store)?;
-    let Ok(slip) = store.open() else {
-        return Err(Fail::new("open is refused"));
-    };
-    let released = release(store, 5);
-    let answer = tick(store.keep(slip));
-    check_eq((released, answer), (Ok(6), Err(9)))
+    check_eq(
+        slip_around(store, |store| release(store, 5), Store::keep)?,
+        (5, Ok(6), Err(9)),
+    )
 }
 
 // The number 7 ends by a revert to 3 before its slip is spent.
 fn back_too_late<C: Chip>(store: &mut Store<C>) -> Result<(), Fail> {
     keep_too_late(store)?;
-    let Ok(slip) = store.open() else {
-        return Err(Fail::new("open is refused"));
-    };
-    let reverted = revert(store, 3);
-    let answer = tick(store.back(slip));
-    check_eq((reverted, answer), (Ok(8), Err(9)))?;
+    check_eq(
+        slip_around(store, |store| revert(store, 3), Store::back)?,
+        (7, Ok(8), Err(9)),
+    )?;
     play(store, &[Held(&[3]), Read(5, 65), Freeze(Ok(9))])
 }
 
 #[test]
 fn a_slip_of_an_ended_number_is_refused() -> Result<(), Fail> {
     let mut words = [0xFFFFu16; 2 * BLOCK_WORDS];
-    let mut store = Store::new(Nor::new(&mut words));
-    let end = back_too_late(&mut store);
-    let _ = store.unmount();
-    end
+    on_store(Nor::new(&mut words), back_too_late)
 }
 
 fn spend_when_closed<C: Chip>(store: &mut Store<C>) -> Result<(), Fail> {
     state_three(store)?;
-    let Ok(slip) = store.open() else {
-        return Err(Fail::new("open is refused"));
-    };
-    let closed = close(store);
-    let answer = tick(store.keep(slip));
-    check_eq((closed, answer), (Ok(0), Err(2)))?;
+    check_eq(
+        slip_around(store, close, Store::keep)?,
+        (5, Ok(()), Err(2)),
+    )?;
     play(store, &[Mount(Ok(5)), Held(&[3, 5])])
 }
 
 #[test]
 fn a_slip_spent_on_a_closed_store_leaves_its_number_held() -> Result<(), Fail> {
     let mut words = [0xFFFFu16; 2 * BLOCK_WORDS];
-    let mut store = Store::new(Nor::new(&mut words));
-    let end = spend_when_closed(&mut store);
-    let _ = store.unmount();
-    end
+    on_store(Nor::new(&mut words), spend_when_closed)
 }
 
-// The number of open's refusal, 0 where it gave a slip, which is spent.
-fn open_number<C: Chip>(store: &mut Store<C>) -> u8 {
-    match store.open() {
-        Ok(slip) => {
-            let _ = store.keep(slip);
-            0
-        }
-        Err(refusal) => refusal.number(),
-    }
+// Whether open is granted, or its number; a slip is spent by keep.
+fn opens<C: Chip>(store: &mut Store<C>) -> Result<(), u8> {
+    let slip = numbered(store.open())?;
+    let _ = store.keep(slip);
+    Ok(())
 }
 
 fn refused_opens<C: Chip>(store: &mut Store<C>) -> Result<(), Fail> {
-    check_eq(open_number(store), 2)?;
+    check_eq(opens(store), Err(2))?;
     play(store, &[Format(b"", Ok(1))])?;
     for state in 2..10u32 {
         play(store, &[Freeze(Ok(state))])?;
     }
-    check_eq(open_number(store), 10)?;
+    check_eq(opens(store), Err(10))?;
     play(
         store,
         &[Held(&[2, 3, 4, 5, 6, 7, 8, 9]), Release(9, Ok(10))],
     )?;
-    check_eq(open_number(store), 0)?;
+    check_eq(opens(store), Ok(()))?;
     play(store, &[Held(&[2, 3, 4, 5, 6, 7, 8]), Freeze(Ok(13))])
 }
 
 #[test]
 fn a_refused_open_gives_no_slip() -> Result<(), Fail> {
     let mut words = [0xFFFFu16; 2 * BLOCK_WORDS];
-    let mut store = Store::new(Nor::new(&mut words));
-    let end = refused_opens(&mut store);
-    let _ = store.unmount();
-    end
+    on_store(Nor::new(&mut words), refused_opens)
 }

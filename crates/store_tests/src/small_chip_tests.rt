@@ -1,4 +1,5 @@
 // The smallest chips, worn.
+use crate::hands::on_store;
 use chip::Chip;
 use nor::{BLOCK_WORDS, Nor};
 use std::test::Fail;
@@ -25,7 +26,7 @@ fn fill_over_and_over<C: Chip>(store: &mut Store<C>) -> Result<(), Fail> {
     for round in 0..300u32 {
         let clock = round + 2;
         let change = Write(round % 6, byte_of(round), Ok(clock));
-        play(store, &[change, Close(Ok(0)), Mount(Ok(clock))])?;
+        play(store, &[change, Close(Ok(())), Mount(Ok(clock))])?;
         if round >= 5 {
             six_sectors(store, round)?;
         }
@@ -36,10 +37,7 @@ fn fill_over_and_over<C: Chip>(store: &mut Store<C>) -> Result<(), Fail> {
 #[test]
 fn two_blocks_are_filled_and_overwritten() -> Result<(), Fail> {
     let mut words = [0xFFFFu16; 2 * BLOCK_WORDS];
-    let mut store = Store::new(Nor::new(&mut words));
-    let end = fill_over_and_over(&mut store);
-    let _ = store.unmount();
-    end
+    on_store(Nor::new(&mut words), fill_over_and_over)
 }
 
 // Each round ticks three times: a state is frozen, gone back to and released.
@@ -54,7 +52,7 @@ fn nothing_fits<C: Chip>(store: &mut Store<C>) -> Result<(), Fail> {
                 Freeze(Ok(state)),
                 Held(&[state]),
                 Revert(state, Ok(state + 1)),
-                Close(Ok(0)),
+                Close(Ok(())),
                 Mount(Ok(state + 1)),
                 Release(state, Ok(state + 2)),
                 Held(&[]),
@@ -68,10 +66,7 @@ fn nothing_fits<C: Chip>(store: &mut Store<C>) -> Result<(), Fail> {
 #[test]
 fn capacity_0_still_freezes_and_reverts() -> Result<(), Fail> {
     let mut rows = [Row::erased(); 4];
-    let mut store = Store::new(Tiny::new(&mut rows));
-    let end = nothing_fits(&mut store);
-    let _ = store.unmount();
-    end
+    on_store(Tiny::new(&mut rows), nothing_fits)
 }
 
 fn fill_beside_a_state<C: Chip>(store: &mut Store<C>) -> Result<(), Fail> {
@@ -103,7 +98,7 @@ fn overwrite_beside_a_state<C: Chip>(store: &mut Store<C>) -> Result<(), Fail> {
             store,
             &[
                 Write(1, byte, Ok(clock)),
-                Close(Ok(0)),
+                Close(Ok(())),
                 Mount(Ok(clock)),
                 Read(1, byte),
                 ReadEmpty(2),
@@ -126,8 +121,5 @@ fn overwrite_beside_a_state<C: Chip>(store: &mut Store<C>) -> Result<(), Fail> {
 #[test]
 fn four_blocks_of_two_pages_keep_four_versions() -> Result<(), Fail> {
     let mut rows = [Row::erased(); 8];
-    let mut store = Store::new(Tiny::new(&mut rows));
-    let end = overwrite_beside_a_state(&mut store);
-    let _ = store.unmount();
-    end
+    on_store(Tiny::new(&mut rows), overwrite_beside_a_state)
 }

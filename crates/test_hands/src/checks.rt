@@ -1,5 +1,5 @@
 // Checks for tests, whose failure says what does not hold.
-use std::fmt::Debug;
+use std::fmt::{Debug, Display};
 use std::test::Fail;
 
 pub fn check(holds: bool) -> Result<(), Fail> {
@@ -11,10 +11,19 @@ pub fn check(holds: bool) -> Result<(), Fail> {
 }
 
 pub fn check_eq<T: PartialEq + Debug + Drop>(found: T, wanted: T) -> Result<(), Fail> {
+    check_eq_at("", found, wanted)
+}
+
+// The failure begins with the place.
+pub(crate) fn check_eq_at<P: Display + Drop, T: PartialEq + Debug + Drop>(
+    place: P,
+    found: T,
+    wanted: T,
+) -> Result<(), Fail> {
     if found == wanted {
         Ok(())
     } else {
-        Err(Fail::new(format_args!("found {found:?}, wanted {wanted:?}")))
+        Err(Fail::new(format_args!("{place}found {found:?}, wanted {wanted:?}")))
     }
 }
 

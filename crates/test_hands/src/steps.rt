@@ -1,28 +1,32 @@
 // Lists of calls, each with what it must answer.
+use crate::checks::check_eq_at;
 use crate::{
-    check_empty, check_held, check_label, check_look, check_look_empty, check_read, clean, close,
-    count, delete, format, freeze, mount, release, revert, since, since_in, write,
+    Filled, clean, close, count, delete, format, freeze, held, label, look, mount, read, release,
+    revert, sector_of, since, since_in, write,
 };
 use chip::Chip;
+use rules::Holding;
+use std::array;
 use std::fmt::Debug;
 use std::test::Fail;
 use store::Store;
 
-// A call with its arguments, and then what it answers.
+// A call with its arguments, and then what it answers. As a closure a step would be
+// `&|at, store| agree(at, write(store, 5, 65), Ok(2))` in place of `Write(5, 65, Ok(2))`.
 #[derive(Clone, Copy)]
 pub enum Step<'a> {
     Format(&'a [u8], Result<u32, u8>),
     Mount(Result<u32, u8>),
-    Close(Result<u32, u8>),
+    Close(Result<(), u8>),
     Write(u32, u8, Result<u32, u8>),
     Delete(u32, Result<u32, u8>),
     Freeze(Result<u32, u8>),
     Release(u32, Result<u32, u8>),
     Revert(u32, Result<u32, u8>),
     Clean(Result<usize, u8>),
-    // The birth is 0 where the sector is empty.
-    Since(u32, Result<u32, u8>),
-    SinceIn(u32, u32, Result<u32, u8>),
+    // The birth, if the sector is not empty.
+    Since(u32, Result<Option<u32>, u8>),
+    SinceIn(u32, u32, Result<Option<u32>, u8>),
     // Needed versions and capacity.
     Count(Result<(usize, usize), u8>),
     // The byte throughout, as it was written.
@@ -36,13 +40,25 @@ pub enum Step<'a> {
 
 // The step answered as it must.
 fn agree<T: PartialEq + Debug + Drop>(at: usize, found: T, wanted: T) -> Result<(), Fail> {
-    if found == wanted {
-        Ok(())
-    } else {
-        Err(Fail::new(format_args!("step {at} of the list: found {found:?}, wanted {wanted:?}")))
-    }
+    check_eq_at(format_args!("step {at} of the list: "), found, wanted)
 }
 
+// The sector that was written with a byte.
+fn data_of(byte: u8) -> Filled<Holding, [u8; 512]> {
+    (Ok(Holding::Data), sector_of(byte))
+}
+
+fn empty() -> Filled<Holding, [u8; 512]> {
+    (Ok(Holding::Empty), [0; 512])
+}
+
+// A list's length, and the list with zeros after it.
+fn padded<T: Copy + Default, const N: usize>(list: &[T]) -> Filled<usize, [T; N]> {
+    let items = array::from_fn(|i| list.get(i).copied().unwrap_or_default());
+    (Ok(list.len()), items)
+}
+
+// Every buffer is filled before.
 fn take<C: Chip>(store: &mut Store<C>, at: usize, step: Step<'_>) -> Result<(), Fail> {
     match step {
         Step::Format(label, answer) => agree(at, format(store, label), answer),
@@ -57,12 +73,14 @@ fn take<C: Chip>(store: &mut Store<C>, at: usize, step: Step<'_>) -> Result<(), 
         Step::Since(sector, answer) => agree(at, since(store, sector), answer),
         Step::SinceIn(state, sector, answer) => agree(at, since_in(store, state, sector), answer),
         Step::Count(answer) => agree(at, count(store), answer),
-        Step::Read(sector, byte) => check_read(store, sector, byte),
-        Step::ReadEmpty(sector) => check_empty(store, sector),
-        Step::Look(state, sector, byte) => check_look(store, state, sector, byte),
-        Step::LookEmpty(state, sector) => check_look_empty(store, state, sector),
-        Step::Held(held) => check_held(store, held),
-        Step::Label(label) => check_label(store, label),
+        Step::Read(sector, byte) => agree(at, read(store, sector, [7; 512]), data_of(byte)),
+        Step::ReadEmpty(sector) => agree(at, read(store, sector, [7; 512]), empty()),
+        Step::Look(state, sector, byte) => {
+            agree(at, look(store, state, sector, [7; 512]), data_of(byte))
+        }
+        Step::LookEmpty(state, sector) => agree(at, look(store, state, sector, [7; 512]), empty()),
+        Step::Held(list) => agree(at, held(store, [7; 8]), padded(list)),
+        Step::Label(list) => agree(at, label(store, [7; 32]), padded(list)),
     }
 }
 
@@ -73,10 +91,16 @@ pub fn play<C: Chip>(store: &mut Store<C>, steps: &[Step<'_>]) -> Result<(), Fai
     Ok(())
 }
 
-// On a closed store over the chip, which is let go afterwards.
-pub fn play_on<C: Chip + Drop>(chip: C, steps: &[Step<'_>]) -> Result<(), Fail> {
+// On a closed store over the chip, which is given back.
+pub fn played_on<C: Chip + Drop>(chip: C, steps: &[Step<'_>]) -> Result<C, Fail> {
     let mut store = Store::new(chip);
     let end = play(&mut store, steps);
-    let _ = store.unmount();
-    end
+    let chip = store.unmount();
+    end.map(|()| chip)
+}
+
+// The same, where nobody looks at the chip afterwards.
+pub fn play_on<C: Chip + Drop>(chip: C, steps: &[Step<'_>]) -> Result<(), Fail> {
+    let _ = played_on(chip, steps)?;
+    Ok(())
 }

@@ -1,12 +1,20 @@
-use Rattle.std.proofs.Common.{[], ◌∷◌, vec_items, refl, ◌∙◌}
-use Rattle.std.proofs.lemmas.Slice.{pushed}
-use Rattle.std.specs.Slice.Iter.{chunks_exact_rest}
-use Rattle.inspection.proofs.Words.{word_more}
+use Rattle.std.proofs.Common.{rules, ◌≡◌, ℕ, zero, suc, ◌+◌, ◌*◌, ◌/◌, List, [], ◌∷◌, map, length, w16, refl, ap, ◌∙◌, arith}
+use Rattle.std.specs.Int.{from_le_bytes}
+use Rattle.std.specs.Simd.{first_chunks}
+use Rattle.std.proofs.lemmas.Result.{IfOk-weaker}
+use Rattle.std.proofs.iter.runs.Made.{chains}
+use Rattle.inspection.specs.Images.{words_of}
 use Rattle.inspection.proofs.images.words_of.Goals as goal
 
-pub loop-pair-preserved : goal.loop-pair-preserved
-loop-pair-preserved c =
-    let inv = c.loop-pair.invariant in
-    let step = c.in-Some.ensures.steps in
-    let words = pushed (c.from_le_bytes.result ∷ []) refl c.in_ok-push.was c.push.ensures.items in
-    (step.0 ∙ inv.0, word_more (vec_items c.loop-pair.words) c.in-Some.pair.now (chunks_exact_rest c.next.new.self) (step.1.1 ∙ inv.0) step.1.0 c.from_le_bytes.ensures words inv.1)
+words_of_pairs : (bytes : List ℕ) (n : ℕ) → n ≡ length bytes / 2 → map (from_le_bytes w16) (first_chunks 2 n bytes) ≡ words_of bytes
+words_of_pairs [] zero e = refl
+words_of_pairs [] (suc n) e = absurd (omega arith)
+words_of_pairs (byte ∷ []) zero e = refl
+words_of_pairs (byte ∷ []) (suc n) e = absurd (omega arith)
+words_of_pairs (low ∷ high ∷ bytes) zero e = absurd (omega arith)
+words_of_pairs (low ∷ high ∷ bytes) (suc n) e = ap (λ words. (low + high * 256) ∷ words) (words_of_pairs bytes n (omega arith))
+
+pub returns : goal.returns
+returns c =
+    let bytes = c.args.bytes.now in
+    IfOk-weaker c.collect.result _ _ (λ words is. is ∙ words_of_pairs bytes (length bytes / 2) refl) (search (rules, chains))

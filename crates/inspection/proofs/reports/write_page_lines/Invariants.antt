@@ -1,6 +1,6 @@
 use Rattle.std.proofs.Common.{◌≡◌, ◌++◌, take, drop, string_bytes}
 use Rattle.inspection.specs.Reports.{tally_of, page_lines}
-use Rattle.inspection.proofs.reports.push_page_lines.Given as goal
+use Rattle.inspection.proofs.reports.write_page_lines.Given as goal
 
 abbrev pub invariant-loop-index : goal.invariant-loop-index
 invariant-loop-index g l =
