@@ -10,13 +10,14 @@ ghost use Rattle.limits.specs.Numbers.{within, rising};
 ghost use Rattle.limits.specs.Values.{held_of, label_of};
 ghost use Rattle.layout.specs.Bytes.{all_zero, u16_at, u32_at, words};
 ghost use Rattle.layout.specs.Parts.{unit_of, most_of, fits, end_of, part_at, bytes_of};
+ghost use Rattle.layout.specs.Kinds.{byte_of, Decodes};
 ghost use Rattle.layout.specs.Page as layout;
 ghost use Rattle.layout.specs.Page.{go_together, tag_read, tag_of, summary, meaning, register_meaning, register_answer, PartsOf, page_meaning, answer, cause_number, fault_number};
 ghost use Rattle.layout.specs.declared.pages.Page.TheVariants as page;
 
 use chip::{PAGE_BYTES, SectorNumber, is_erased};
 use limits::{Birth, Held, LABEL_BYTES, Label, MOST_HELD, Register, Sector, Version, is_rising};
-pub use pages::{Cause, Page, RegisterFault, Tag};
+pub use pages::{Cause, Page, PageKind, RegisterFault, Tag, UnknownKind};
 pub use parts::{PartKind, RegisterPart, RegisterParts};
 
 // Bytes of a page before its tag.
@@ -32,13 +33,6 @@ const SECTOR: usize = 514;
 const BIRTH: usize = 516;
 
 const AFTER_BIRTH: usize = 520;
-
-// The kinds of programmed pages.
-pub const DATA_KIND: u8 = 1;
-
-pub const DELETION_KIND: u8 = 2;
-
-pub const REGISTER_KIND: u8 = 3;
 
 // The sector in the tag of a register.
 pub const NO_SECTOR: u16 = 65535;
@@ -185,6 +179,29 @@ pub fn read_register<'a>(
     })
 }
 
+impl TryFrom<u8> for PageKind {
+    type Error = UnknownKind;
+
+    ghost try_from_gives = { Decodes };
+
+    fn try_from(byte: u8) -> Result<Self, UnknownKind> {
+        match byte {
+            1 => Ok(PageKind::Data),
+            2 => Ok(PageKind::Deletion),
+            3 => Ok(PageKind::Register),
+            _ => Err(UnknownKind(byte)),
+        }
+    }
+}
+
+impl From<PageKind> for u8 {
+    ghost from_gives = { λ kind byte. byte ≡ byte_of kind };
+
+    fn from(kind: PageKind) -> u8 {
+        kind as u8
+    }
+}
+
 fn sector_of(number: u16) -> Option<Sector>
     ensures { option_map (λ s. s.number) result ≡ within 0 2047 number }
 {
@@ -196,17 +213,16 @@ fn tag_with(kind: u8, sector: u16, birth: u32) -> Option<Tag>
     ensures { option_map tag_of result ≡ (if go_together kind sector birth then Some (kind, sector, birth) else None) }
 {
     let birth = Birth::new(birth)?;
-    match kind {
-        DATA_KIND => Some(Tag::Data(Version {
+    match PageKind::try_from(kind).ok()? {
+        PageKind::Data => Some(Tag::Data(Version {
             sector: sector_of(sector)?,
             birth,
         })),
-        DELETION_KIND => Some(Tag::Deletion(Version {
+        PageKind::Deletion => Some(Tag::Deletion(Version {
             sector: sector_of(sector)?,
             birth,
         })),
-        REGISTER_KIND => (sector == NO_SECTOR).then_some(Tag::Register(birth)),
-        _ => None,
+        PageKind::Register => (sector == NO_SECTOR).then_some(Tag::Register(birth)),
     }
 }
 

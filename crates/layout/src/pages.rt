@@ -1,6 +1,18 @@
 // What a page is, and why one is bad.
 use limits::{Birth, Register, Version};
 
+// The kind of a programmed page, with its byte in the tag.
+#[derive(Clone, Copy, Debug, PartialEq, Eq)]
+pub enum PageKind {
+    Data = 1,
+    Deletion = 2,
+    Register = 3,
+}
+
+// A byte that stands for no kind.
+#[derive(Clone, Copy, Debug, PartialEq, Eq)]
+pub struct UnknownKind(pub u8);
+
 // Why a page is bad, in the order of the checks.
 #[derive(Clone, Copy, Debug, PartialEq, Eq)]
 pub enum Cause {

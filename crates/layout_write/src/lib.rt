@@ -5,15 +5,14 @@ ghost use Rattle.std.specs.Prelude.{◌≡◌, ◌+◌, ◌*◌, ◌≤◌, [], 
 ghost use Rattle.std.proofs.Math.Seq.{paste};
 ghost use Rattle.std.specs.List.{flat_map};
 ghost use Rattle.limits.specs.Values.{held_of, label_of};
+ghost use Rattle.layout.specs.Kinds.{byte_of};
 ghost use Rattle.layout.specs.Page as layout;
 ghost use Rattle.layout.specs.Page.{meaning};
 ghost use Rattle.layout_write.specs.Laws.{ReadAgain, WrittenAgain};
 ghost use Rattle.layout_write.specs.Written.{le16, le32, tag_bytes, data_page, deletion_page, pairs_from, whole, register_data, register_page, contents};
 
 use chip::PAGE_BYTES;
-use layout::{
-    DATA_BYTES, DATA_KIND, DELETION_KIND, NO_SECTOR, NUMBER_BYTES, PAIR_BYTES, REGISTER_KIND,
-};
+use layout::{DATA_BYTES, NO_SECTOR, NUMBER_BYTES, PAIR_BYTES, PageKind};
 use limits::{Held, Register, Version};
 
 // Copies bytes to a place.
@@ -24,12 +23,13 @@ fn put(out: &mut [u8], at: usize, bytes: &[u8])
     out[at..at + bytes.len()].copy_from_slice(bytes);
 }
 
-fn put_tag(kind: u8, sector: u16, birth: u32, tag: &mut [u8])
+fn put_tag(kind: PageKind, sector: u16, birth: u32, tag: &mut [u8])
     requires { length tag.old ≡ 16 }
-    ensures { tag.new ≡ tag_bytes kind sector birth }
+    ensures { tag.new ≡ tag_bytes (byte_of kind) sector birth }
 {
     let [s0, s1] = sector.to_le_bytes();
     let [b0, b1, b2, b3] = birth.to_le_bytes();
+    let kind = u8::from(kind);
     tag.copy_from_slice(&[kind, 0, s0, s1, b0, b1, b2, b3, 0, 0, 0, 0, 0, 0, 0, 0]);
 }
 
@@ -47,7 +47,7 @@ pub fn write_data(version: Version, bytes: &[u8; DATA_BYTES], page: &mut [u8; PA
 {
     page[0..DATA_BYTES].copy_from_slice(bytes);
     put_tag(
-        DATA_KIND,
+        PageKind::Data,
         version.sector.number,
         version.birth.number,
         &mut page[DATA_BYTES..PAGE_BYTES],
@@ -61,7 +61,7 @@ pub fn write_deletion(version: Version, page: &mut [u8; PAGE_BYTES])
 {
     clear(&mut page[0..DATA_BYTES]);
     put_tag(
-        DELETION_KIND,
+        PageKind::Deletion,
         version.sector.number,
         version.birth.number,
         &mut page[DATA_BYTES..PAGE_BYTES],
@@ -144,7 +144,7 @@ pub fn write_register(register: &Register, page: &mut [u8; PAGE_BYTES])
         register.label.as_slice(),
     );
     put_tag(
-        REGISTER_KIND,
+        PageKind::Register,
         NO_SECTOR,
         register.birth.number,
         &mut page[DATA_BYTES..PAGE_BYTES],
