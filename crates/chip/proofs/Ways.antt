@@ -5,7 +5,7 @@ use Rattle.std.proofs.Math.Nat.{div-lt_iff_lt-mul}
 use Rattle.std.proofs.lemmas.Bool.{le-ltb, lt-ltb, eq-eqb, ne_eqb, cases_lt, cases_eq}
 use Rattle.chip.specs.declared.ChipFault.{ChipFault}
 use Rattle.chip.specs.declared.ChipFault.TheVariants.{OutOfRange, BufferLength, NotErased}
-use Rattle.chip.specs.Pages.{Page, is_erased, block_answer, place_answer, read_answer, buffer_read, program_answer, pages_programmed, erase_answer, pages_erased, erased_page}
+use Rattle.chip.specs.Pages.{Page, is_erased, block_answer, place_answer, buffer_read, program_answer, pages_programmed, pages_erased, erased_page}
 
 -- A block was found.
 pub block_found : (blocks b i : ℕ) → Ok i ≡ block_answer blocks b → (b < blocks) × (i ≡ b)
