@@ -5,7 +5,7 @@ use Rattle.std.proofs.Math.Nat.{div-lt_iff_lt-mul}
 use Rattle.std.proofs.lemmas.Bool.{le-ltb, lt-ltb, eq-eqb, ne_eqb, cases_lt, cases_eq}
 use Rattle.chip.specs.declared.ChipFault.{ChipFault}
 use Rattle.chip.specs.declared.ChipFault.TheVariants.{OutOfRange, BufferLength, NotErased}
-use Rattle.chip.specs.Pages.{Page, is_erased, block_answer, place_answer, read_answer, buffer_read, program_answer, pages_programmed, erase_answer, pages_erased, erased_page}
+use Rattle.chip.specs.Pages.{Page, is_erased, block_answer, place_answer, buffer_read, program_answer, pages_programmed, pages_erased, erased_page}
 
 -- A block was found.
 pub block_found : (blocks b i : ℕ) → Ok i ≡ block_answer blocks b → (b < blocks) × (i ≡ b)
@@ -19,10 +19,10 @@ module _ (per blocks : ℕ) (pages : List Page) (least : 2 ≤ per) (whole : len
       let below : p / per < blocks = omega (arith, (block_found blocks b i found).0) in
       rw whole ((div-lt_iff_lt-mul {k = per} {x = p} {y = blocks} (omega arith)).0 below)
 
-  pub place_length : (n ≡ 528 → ⊥) → Err BufferLength ≡ place_answer per pages p n
+  pub place_length : (n ≡ 528 → ⊥) → Err BufferLength ≡ place_answer pages p per n
   place_length d = rw (lt-ltb p (length pages) inside, ne_eqb n 528 d) refl
 
-  pub place_found : n ≡ 528 → (place : ℕ) → place ≡ p % per → Ok (i, place) ≡ place_answer per pages p n
+  pub place_found : n ≡ 528 → (place : ℕ) → place ≡ p % per → Ok (i, place) ≡ place_answer pages p per n
   place_found e place at =
       rw (lt-ltb p (length pages) inside, eq-eqb n 528 e) (let f = (block_found blocks b i found).1 in cc)
 
@@ -33,7 +33,7 @@ pub record Found (per : ℕ) (pages : List Page) (p n block place : ℕ) : Type 
   pub in_block : block ≡ p / per
   pub at : place ≡ p % per
 
-pub page_found : (per : ℕ) (pages : List Page) (p n block place : ℕ) → Ok (block, place) ≡ place_answer per pages p n → Found per pages p n block place
+pub page_found : (per : ℕ) (pages : List Page) (p n block place : ℕ) → Ok (block, place) ≡ place_answer pages p per n → Found per pages p n block place
 page_found per pages p n block place e = ⊎_elim in_range (λ h. absurd (lacking h)) (cases_lt p (length pages))
   where
     lacking : length pages ≤ p → ⊥

@@ -30,31 +30,30 @@ Answer = Result (Unit {0}) ChipFault
 abbrev pub block_answer : ℕ → ℕ → Result ℕ ChipFault
 block_answer blocks b = if nat_lt b blocks then Ok b else Err OutOfRange
 
--- The block of page p and its place there, for a call with n bytes. `per` is the number of pages of a block.
-abbrev pub place_answer : ℕ → List Page → ℕ → ℕ → Result (ℕ × ℕ) ChipFault
-place_answer per pages p n =
-    if nat_lt p (length pages) then (if n == 528 then Ok (p / per, p % per) else Err BufferLength) else Err OutOfRange
+abbrev pub erase_answer : ℕ → ℕ → Answer
+erase_answer blocks b = if nat_lt b blocks then Ok tt else Err OutOfRange
 
 module _ (pages : List Page) (p : ℕ) where
-  -- For a buffer of n bytes.
+  -- The checks of a call with n bytes, in their order, and its answer where none of them refuses it.
+  abbrev pub after_checks : {T : Type 0} → ℕ → Result T ChipFault → Result T ChipFault
+  after_checks n answer = if nat_lt p (length pages) then (if n == 528 then answer else Err BufferLength) else Err OutOfRange
+
+  -- The block of the page and its place there. `per` is the number of pages of a block.
+  abbrev pub place_answer : ℕ → ℕ → Result (ℕ × ℕ) ChipFault
+  place_answer per n = after_checks n (Ok (p / per, p % per))
+
   abbrev pub read_answer : ℕ → Answer
-  read_answer n = if nat_lt p (length pages) then (if n == 528 then Ok tt else Err BufferLength) else Err OutOfRange
+  read_answer n = after_checks n (Ok tt)
 
   abbrev pub buffer_read : List ℕ → List ℕ
   buffer_read buffer = if is_ok (read_answer (length buffer)) then slice_index_or pages p [] else buffer
 
-  -- For n bytes.
   abbrev pub program_answer : ℕ → Answer
-  program_answer n =
-      if nat_lt p (length pages) then (if n == 528 then (if is_erased (slice_index_or pages p []) then Ok tt else Err NotErased) else Err BufferLength) else Err OutOfRange
+  program_answer n = after_checks n (if is_erased (slice_index_or pages p []) then Ok tt else Err NotErased)
 
   abbrev pub pages_programmed : List ℕ → List Page
   pages_programmed bytes = if is_ok (program_answer (length bytes)) then slice_set pages p bytes else pages
 
-abbrev pub erase_answer : ℕ → ℕ → Answer
-erase_answer blocks b = if nat_lt b blocks then Ok tt else Err OutOfRange
-
--- `per` is the number of pages of a block.
 abbrev pub pages_erased : ℕ → ℕ → List Page → ℕ → List Page
 pages_erased per blocks pages b =
     if is_ok (erase_answer blocks b) then take (b * per) pages ++ (replicate per erased_page ++ drop (b * per + per) pages) else pages

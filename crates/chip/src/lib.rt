@@ -97,7 +97,7 @@ pub trait Chip {
 
     // The block of a page and its place there, for a call with so many bytes.
     fn place_of(&self, page: PageNumber, length: usize) -> Result<(usize, usize), ChipFault>
-        ensures { result ≡ place_answer per (pages self.now) page.0 length }
+        ensures { result ≡ place_answer (pages self.now) page.0 per length }
     {
         let (block, place) = Self::split(page);
         let block = self.block_index(block)?;

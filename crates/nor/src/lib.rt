@@ -25,6 +25,7 @@ pub struct Nor<'a> {
     image: &'a mut [u16],
 }
 
+// A lender common to the makes would spare none of these two calls: each make is a type of its own, for its impl of Chip.
 impl<'a> Nor<'a> {
     pub fn new(image: &'a mut [u16]) -> Nor<'a>
         ensures image { result.image.now ≡ image.old }
@@ -87,7 +88,7 @@ impl PageAt {
 impl Nor<'_> {
     // Where a page lies, for a call with so many bytes.
     fn page_at(&self, page: PageNumber, length: usize) -> Result<PageAt, ChipFault>
-        ensures { MatchResult result (λ at. IsPage self.now.image.now page.0 length at.block at.place) (λ fault. place_answer 8 (nor_pages self.now.image.now) page.0 length ≡ Err fault) }
+        ensures { MatchResult result (λ at. IsPage self.now.image.now page.0 length at.block at.place) (λ fault. place_answer (nor_pages self.now.image.now) page.0 8 length ≡ Err fault) }
     {
         let (block, place) = self.place_of(page, length)?;
         Ok(PageAt { block, place })

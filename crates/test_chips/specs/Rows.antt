@@ -1,8 +1,6 @@
 -- The chip that rows hold: two pages to a block, and no row left over.
-use Rattle.std.specs.Prelude.{◌≡◌, ℕ, ◌+◌, ◌*◌, ◌/◌, ◌<◌, ◌≤◌, min, List, [], map, length, get_or, take, drop, slice_index_or, slice_set}
+use Rattle.std.specs.Prelude.{◌≡◌, ℕ, ◌+◌, ◌*◌, ◌/◌, ◌<◌, min, List, [], map, length, get_or, take, drop, slice_index_or, slice_set}
 use Rattle.chip.specs.Pages.{Page, erased_page, pages_erased}
-use Rattle.chip.specs.declared.ChipFault.{ChipFault}
-use Rattle.chip.specs.declared.ChipFault.TheVariants.{OutOfRange}
 use Rattle.test_chips.specs.declared.row.Row.{Row}
 
 abbrev pub row_bytes : Row → Page

@@ -14,6 +14,7 @@ pub struct Tiny<'a> {
     rows: &'a mut [Row],
 }
 
+// A lender common to the makes would spare none of these two calls: each make is a type of its own, for its impl of Chip.
 impl<'a> Tiny<'a> {
     pub fn new(rows: &'a mut [Row]) -> Tiny<'a>
         ensures rows { result.rows.now ≡ rows.old }
@@ -35,7 +36,7 @@ impl<'a> Tiny<'a> {
 impl Tiny<'_> {
     // The row of a page, for a call with so many bytes.
     fn row_of(&self, page: PageNumber, length: usize) -> Result<usize, ChipFault>
-        ensures { MatchResult result (PageRow self.now.rows.now page.0 length) (λ fault. place_answer 2 (tiny_pages self.now.rows.now) page.0 length ≡ Err fault) }
+        ensures { MatchResult result (PageRow self.now.rows.now page.0 length) (λ fault. place_answer (tiny_pages self.now.rows.now) page.0 2 length ≡ Err fault) }
     {
         let (block, place) = self.place_of(page, length)?;
         Ok(block * 2 + place)

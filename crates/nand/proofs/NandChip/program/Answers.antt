@@ -1,9 +1,8 @@
-use Rattle.std.proofs.Common.{rules, ◌≡◌, ◌+◌, ◌-◌, ◌*◌, ◌≤◌, true, false, length, set, refl, ap, sym, ◌∙◌, arith}
+use Rattle.std.proofs.Common.{rules, ◌≡◌, length, set, refl, ap, sym, ◌∙◌, arith}
 use Rattle.chip.specs.Pages.{is_erased}
 use Rattle.chip.proofs.Ways.{page_found, program_not_erased, program_granted}
 use Rattle.nand.specs.Image.{nand_pages}
-use Rattle.nand.specs.Shaped.{blocks_fit}
-use Rattle.nand.proofs.Cut.{place_nand, part_nand, page_nand, set_nand, kept_page, same_page}
+use Rattle.nand.proofs.Cut.{part_nand, page_nand, set_nand, kept_page, same_page}
 use Rattle.nand.proofs.NandChip.program.Goals as goal
 
 pub is_erased_at-requires : goal.is_erased_at-requires

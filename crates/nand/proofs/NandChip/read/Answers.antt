@@ -1,7 +1,7 @@
-use Rattle.std.proofs.Common.{rules, ◌≡◌, ◌+◌, ◌*◌, ◌≤◌, length, sym, ◌∙◌, arith}
+use Rattle.std.proofs.Common.{rules, sym, ◌∙◌}
 use Rattle.chip.proofs.Ways.{page_found, read_granted}
 use Rattle.nand.specs.Image.{nand_pages}
-use Rattle.nand.proofs.Cut.{read_nand, place_nand, part_nand}
+use Rattle.nand.proofs.Cut.{read_nand, part_nand}
 use Rattle.nand.proofs.NandChip.read.Goals as goal
 
 pub slice_bounds-copy_from_slice-end : goal.slice_bounds-copy_from_slice-end

@@ -1,4 +1,4 @@
-use Rattle.std.proofs.Common.{ap, sym, ◌∙◌, arith}
+use Rattle.std.proofs.Common.{arith}
 use Rattle.chip.proofs.Ways.{page_found}
 use Rattle.nor.specs.Image.{nor_pages}
 use Rattle.nor.specs.Shaped.{length_nor}

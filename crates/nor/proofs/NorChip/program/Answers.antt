@@ -1,4 +1,4 @@
-use Rattle.std.proofs.Common.{true, false, length, drop, refl, sym, ap, ◌*◌, ◌≡◌, ◌∙◌, set, arith}
+use Rattle.std.proofs.Common.{length, drop, refl, sym, ap, ◌*◌, ◌∙◌, set, arith}
 use Rattle.chip.specs.Pages.{is_erased}
 use Rattle.chip.proofs.Ways.{program_not_erased, program_granted}
 use Rattle.nor.specs.Image.{nor_pages, nor_blocks}

@@ -1,9 +1,23 @@
 use Rattle.std.proofs.Common.{◌≡◌, ◌-◌, ◌*◌, length, drop, sym, ap, ◌∙◌, arith, length-drop}
-use Rattle.std.specs.Iterator.Adapters.{enumerate_count}
+use Rattle.std.specs.Slice.Iter.{chunks_exact_rest, chunks_exact_size}
+use Rattle.std.specs.Iterator.Adapters.{enumerate_count, enumerate_source}
 use Rattle.nor.specs.Image.{word_at}
 use Rattle.nor.specs.Program.{anded, programmed}
 use Rattle.nor.proofs.Pairs.{room, left, next_pair}
 use Rattle.nor.proofs.PageAt.and_bytes.Goals as goal
+
+pub loop-i-init : goal.loop-i-init
+loop-i-init c =
+    let bytes = c.args.bytes.now in
+    let it = c.into_iter-i-iterator.ensures.into_iter_gives in
+    let zero : enumerate_count c.into_iter-i-iterator.result ≡ 0 = ap enumerate_count it ∙ c.enumerate-i-items.ensures.count in
+    let pairs : enumerate_source c.into_iter-i-iterator.result ≡ c.chunks_exact.result = ap enumerate_source it ∙ c.enumerate-i-items.ensures.source in
+    record {
+      done = ap (anded c.args.image.now c.args.self.block c.args.self.place bytes) (sym zero);
+      rest = ap chunks_exact_rest pairs ∙ c.chunks_exact.ensures.rest ∙ ap (λ k. drop (2 * k) bytes) (sym zero);
+      size = ap chunks_exact_size pairs ∙ c.chunks_exact.ensures.size;
+      most = omega arith;
+    }
 
 pub loop-i-preserved : goal.loop-i-preserved
 loop-i-preserved c =
