@@ -52,9 +52,6 @@ cond_same false x = refl
 when_not : (b : Bool) (P Q : Type 0) → b ≡ false → Q → MatchBool b P Q
 when_not b P Q e q = subst (λ z. MatchBool z P Q) (sym e) q
 
-when_so : (b : Bool) (P Q : Type 0) → b ≡ true → P → MatchBool b P Q
-when_so b P Q e q = subst (λ z. MatchBool z P Q) (sym e) q
-
 -- One call: a step of a run, a store that is good again, and the same capacity.
 pub record Stepped (c : Call) (a : Answer) (v w : View) : Type 0 where
   pub step : Step (capacity_of v) (is_open v) (state_of v) (event c a) (state_of w)

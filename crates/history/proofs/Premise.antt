@@ -7,7 +7,7 @@ use Rattle.keeping.specs.Opened.{Opened}
 use Rattle.rules.specs.Calls.{Call, mount, close, count, clean, freeze, open_slip, write, delete, read, look, since, since_in, ask_held, ask_label, release, revert, keep_slip, back_slip, Answer}
 use Rattle.line.specs.Line.{Event}
 use Rattle.store.specs.Views.{View, Sound}
-use Rattle.store.specs.Deeds.{Formatted, Does}
+use Rattle.store.specs.Deeds.{Does}
 use Rattle.history.specs.History.{History}
 use Rattle.history.proofs.Lawful.{reached}
 

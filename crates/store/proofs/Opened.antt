@@ -1,23 +1,17 @@
 -- What a call makes of an open store, which is sound by its type. (That it is sound tells only that there is a proof: each goal here has at most one.)
-use Rattle.std.proofs.Common.{true, ◌≡◌, ℕ, ◌-◌, List, [], ◌∷◌, Some, Option, Result, Ok, Err, MatchResult, MutBor, refl, sym, ap, ◌∙◌, subst, arith}
+use Rattle.std.proofs.Common.{true, ◌≡◌, ℕ, ◌-◌, List, [], ◌∷◌, Some, Option, MutBor, refl, sym, ap, ◌∙◌, arith}
 use Rattle.std.proofs.Math.Logic.{∥∥₁_elim, ∥∥₁_map}
-use Rattle.std.proofs.lemmas.Grind.{merely}
 use Rattle.std.proofs.Props.{props}
 use Rattle.std.proofs.lemmas.Bool.{both_ways}
-use Rattle.std.specs.Result.{IsOkAnd}
-use Rattle.std.specs.Option.{is_some, ForSome, option_copied_mut}
+use Rattle.std.specs.Option.{ForSome, option_copied_mut}
 use Rattle.chip.specs.Pages.{Page}
 use Rattle.rules.specs.Calls.{Call, freeze, open_slip, Answer, granted, rule}
-use Rattle.rules.specs.Told.{told, tick_value}
-use Rattle.rules.specs.declared.types.Tick.{Tick}
-use Rattle.refusals.specs.declared.types.Refusal.{Refusal}
-use Rattle.store.specs.declared.slips.Slip.{Slip}
 use Rattle.tables.specs.declared.index.Index.{Index}
 use Rattle.keeping.specs.Opened.{Opened}
 use Rattle.calls.specs.Follows.{Tells, Follows, Followed, Cleaned, stale_count}
 use Rattle.calls.specs.Follows as calls
-use Rattle.store.specs.Views.{View, is_open, reading_of, capacity_of, Sound, SameSize}
-use Rattle.store.specs.Deeds.{slip_value, Changes, Asks, Cleans}
+use Rattle.store.specs.Views.{View, Sound}
+use Rattle.store.specs.Deeds.{Changes, Asks, Cleans}
 
 same_view : (v w : View) → w.blocks ≡ v.blocks → w.per ≡ v.per → w.pages ≡ v.pages → w.memory ≡ v.memory → w ≡ v
 same_view v w b p q m = rw (b, p, q, m) refl
