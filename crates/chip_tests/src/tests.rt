@@ -6,12 +6,9 @@ use std::process::Abort;
 use std::test::Fail;
 use test_chips::{Counting, Row, Tiny};
 
-// The number of a chip's answer.
-fn number_of(answer: Result<(), ChipFault>) -> u8 {
-    match answer {
-        Ok(()) => 0,
-        Err(fault) => fault.number(),
-    }
+// What is granted, or the number of the refusal, as docs/chips.md has it.
+fn numbered(answer: Result<(), ChipFault>) -> Result<(), u8> {
+    answer.map_err(ChipFault::number)
 }
 
 // A page of one byte throughout.
@@ -21,40 +18,49 @@ fn page_of(byte: u8) -> [u8; PAGE_BYTES] {
 
 fn check_page<C: Chip>(rt: &impl Abort, chip: &C, page: u32, byte: u8) {
     let mut buffer = [0u8; PAGE_BYTES];
-    assert_eq!(rt; number_of(chip.read(PageNumber(page), &mut buffer)), 0);
+    assert_eq!(rt; numbered(chip.read(PageNumber(page), &mut buffer)), Ok(()));
     assert!(rt; buffer == page_of(byte));
 }
 
 // Page 2 is programmed; pages from `pages` on are lacking.
 fn refuses_in_order<C: Chip>(rt: &impl Abort, chip: &mut C, pages: u32) {
     let mut short = [7u8; 527];
-    assert_eq!(rt; number_of(chip.read(PageNumber(pages), &mut short)), 21);
-    assert_eq!(rt; number_of(chip.read(PageNumber(2), &mut short)), 22);
+    assert_eq!(rt; numbered(chip.read(PageNumber(pages), &mut short)), Err(21));
+    assert_eq!(rt; numbered(chip.read(PageNumber(2), &mut short)), Err(22));
     assert!(rt; short == [7u8; 527]);
-    assert_eq!(rt; number_of(chip.program(PageNumber(pages), &short)), 21);
-    assert_eq!(rt; number_of(chip.program(PageNumber(u32::MAX), &short)), 21);
-    assert_eq!(rt; number_of(chip.program(PageNumber(2), &short)), 22);
-    assert_eq!(rt; number_of(chip.program(PageNumber(2), &page_of(1))), 23);
-    assert_eq!(rt; number_of(chip.erase(BlockNumber(u32::MAX))), 21);
+    assert_eq!(rt; numbered(chip.program(PageNumber(pages), &short)), Err(21));
+    assert_eq!(rt;
+        numbered(chip.program(PageNumber(u32::MAX), &short)),
+        Err(21)
+    );
+    assert_eq!(rt; numbered(chip.program(PageNumber(2), &short)), Err(22));
+    assert_eq!(rt; numbered(chip.program(PageNumber(2), &page_of(1))), Err(23));
+    assert_eq!(rt; numbered(chip.erase(BlockNumber(u32::MAX))), Err(21));
     check_page(rt, chip, 2, 0x5A);
 }
 
 // Buffers of other lengths are refused and stay as they are.
 fn refuses_lengths<C: Chip>(rt: &impl Abort, chip: &mut C) {
     let mut long = [7u8; 529];
-    assert_eq!(rt; number_of(chip.read(PageNumber(0), &mut [])), 22);
-    assert_eq!(rt; number_of(chip.read(PageNumber(0), &mut long)), 22);
+    assert_eq!(rt; numbered(chip.read(PageNumber(0), &mut [])), Err(22));
+    assert_eq!(rt; numbered(chip.read(PageNumber(0), &mut long)), Err(22));
     assert!(rt; long == [7u8; 529]);
-    assert_eq!(rt; number_of(chip.program(PageNumber(0), &[])), 22);
-    assert_eq!(rt; number_of(chip.program(PageNumber(0), &long)), 22);
+    assert_eq!(rt; numbered(chip.program(PageNumber(0), &[])), Err(22));
+    assert_eq!(rt; numbered(chip.program(PageNumber(0), &long)), Err(22));
     check_page(rt, chip, 0, 0xFF);
 }
 
 // FF bytes are granted on an erased page, and refused on any other.
 fn programs_ones<C: Chip>(rt: &impl Abort, chip: &mut C) {
-    assert_eq!(rt; number_of(chip.program(PageNumber(1), &page_of(0xFF))), 0);
+    assert_eq!(rt;
+        numbered(chip.program(PageNumber(1), &page_of(0xFF))),
+        Ok(())
+    );
     check_page(rt, chip, 1, 0xFF);
-    assert_eq!(rt; number_of(chip.program(PageNumber(2), &page_of(0xFF))), 23);
+    assert_eq!(rt;
+        numbered(chip.program(PageNumber(2), &page_of(0xFF))),
+        Err(23)
+    );
     check_page(rt, chip, 2, 0x5A);
 }
 
@@ -62,16 +68,19 @@ fn programs_ones<C: Chip>(rt: &impl Abort, chip: &mut C) {
 fn last_tag_byte_counts<C: Chip>(rt: &impl Abort, chip: &mut C) {
     let mut bytes = page_of(0xFF);
     bytes[527] = 0xFE;
-    assert_eq!(rt; number_of(chip.program(PageNumber(3), &bytes)), 0);
-    assert_eq!(rt; number_of(chip.program(PageNumber(3), &page_of(0))), 23);
+    assert_eq!(rt; numbered(chip.program(PageNumber(3), &bytes)), Ok(()));
+    assert_eq!(rt; numbered(chip.program(PageNumber(3), &page_of(0))), Err(23));
     let mut buffer = [0u8; PAGE_BYTES];
-    assert_eq!(rt; number_of(chip.read(PageNumber(3), &mut buffer)), 0);
+    assert_eq!(rt; numbered(chip.read(PageNumber(3), &mut buffer)), Ok(()));
     assert!(rt; buffer == bytes);
 }
 
 // On an erased chip of at least four pages: `pages` in all.
 fn behaves<C: Chip>(rt: &impl Abort, chip: &mut C, pages: u32) {
-    assert_eq!(rt; number_of(chip.program(PageNumber(2), &page_of(0x5A))), 0);
+    assert_eq!(rt;
+        numbered(chip.program(PageNumber(2), &page_of(0x5A))),
+        Ok(())
+    );
     refuses_in_order(rt, chip, pages);
     refuses_lengths(rt, chip);
     programs_ones(rt, chip);
@@ -82,11 +91,11 @@ fn behaves<C: Chip>(rt: &impl Abort, chip: &mut C, pages: u32) {
 fn erases_one_block<C: Chip>(rt: &impl Abort, chip: &mut C, block: u32, first: u32, last: u32) {
     for page in first.saturating_sub(1)..last.saturating_add(2) {
         assert_eq!(rt;
-            number_of(chip.program(PageNumber(page), &page_of(0x11))),
-            0
+            numbered(chip.program(PageNumber(page), &page_of(0x11))),
+            Ok(())
         );
     }
-    assert_eq!(rt; number_of(chip.erase(BlockNumber(block))), 0);
+    assert_eq!(rt; numbered(chip.erase(BlockNumber(block))), Ok(()));
     check_page(rt, chip, first.saturating_sub(1), 0x11);
     for page in first..last.saturating_add(1) {
         check_page(rt, chip, page, 0xFF);
@@ -133,7 +142,7 @@ fn page_one_of_nor_has_its_words(rt: HostRuntime) {
     bytes[512] = 0x78;
     bytes[513] = 0x56;
     let mut chip = Nor::new(&mut image);
-    assert_eq!(rt; number_of(chip.program(PageNumber(1), &bytes)), 0);
+    assert_eq!(rt; numbered(chip.program(PageNumber(1), &bytes)), Ok(()));
     let words = chip.into_image();
     assert!(rt; words.len() == 2112);
     assert_eq!(rt; words[256], 0x1234);
@@ -172,8 +181,8 @@ fn nor_takes_whole_blocks(rt: HostRuntime) {
 fn a_chip_of_no_block_lacks_every_page(rt: HostRuntime) {
     let mut chip = Nand::new(&mut []);
     let mut buffer = page_of(9);
-    assert_eq!(rt; number_of(chip.read(PageNumber(0), &mut buffer)), 21);
-    assert_eq!(rt; number_of(chip.erase(BlockNumber(0))), 21);
+    assert_eq!(rt; numbered(chip.read(PageNumber(0), &mut buffer)), Err(21));
+    assert_eq!(rt; numbered(chip.erase(BlockNumber(0))), Err(21));
     assert!(rt; buffer == page_of(9));
 }
 
@@ -181,8 +190,8 @@ fn a_chip_of_no_block_lacks_every_page(rt: HostRuntime) {
 fn a_tail_never_changes(rt: HostRuntime) {
     let mut bytes = [0x33u8; 16896 + 5];
     let mut chip = Nand::new(&mut bytes);
-    assert_eq!(rt; number_of(chip.erase(BlockNumber(0))), 0);
-    assert_eq!(rt; number_of(chip.erase(BlockNumber(1))), 21);
+    assert_eq!(rt; numbered(chip.erase(BlockNumber(0))), Ok(()));
+    assert_eq!(rt; numbered(chip.erase(BlockNumber(1))), Err(21));
     let image = chip.into_image();
     assert!(rt; image.len() == 16901);
     assert_eq!(rt; image[16895], 0xFF);
@@ -195,13 +204,13 @@ fn limits_are_128_and_512_blocks(rt: HostRuntime) -> Result<(), Fail> {
     let chip = Nand::new(&mut bytes);
     assert_eq!(rt; chip.size(), 128);
     let mut buffer = page_of(0);
-    assert_eq!(rt; number_of(chip.read(PageNumber(4095), &mut buffer)), 0);
-    assert_eq!(rt; number_of(chip.read(PageNumber(4096), &mut buffer)), 21);
+    assert_eq!(rt; numbered(chip.read(PageNumber(4095), &mut buffer)), Ok(()));
+    assert_eq!(rt; numbered(chip.read(PageNumber(4096), &mut buffer)), Err(21));
     let mut words = vec![in rt.alloc(); 0xFFFFu16; 513 * 2112]?;
     let chip = Nor::new(&mut words);
     assert_eq!(rt; chip.size(), 512);
-    assert_eq!(rt; number_of(chip.read(PageNumber(4095), &mut buffer)), 0);
-    assert_eq!(rt; number_of(chip.read(PageNumber(4096), &mut buffer)), 21);
+    assert_eq!(rt; numbered(chip.read(PageNumber(4095), &mut buffer)), Ok(()));
+    assert_eq!(rt; numbered(chip.read(PageNumber(4096), &mut buffer)), Err(21));
     Ok(())
 }
 
@@ -211,10 +220,16 @@ fn a_partition_of_a_partition_adds_offsets(rt: HostRuntime) {
     let outer = Partition::new(Nor::new(&mut image), BlockNumber(1), 3);
     let mut inner = Partition::new(outer, BlockNumber(1), 1);
     assert_eq!(rt; inner.size(), 1);
-    assert_eq!(rt; number_of(inner.program(PageNumber(7), &page_of(0x21))), 0);
+    assert_eq!(rt;
+        numbered(inner.program(PageNumber(7), &page_of(0x21))),
+        Ok(())
+    );
     // Past the inner end, although the chips below have the page.
-    assert_eq!(rt; number_of(inner.program(PageNumber(8), &page_of(0x21))), 21);
-    assert_eq!(rt; number_of(inner.erase(BlockNumber(1))), 21);
+    assert_eq!(rt;
+        numbered(inner.program(PageNumber(8), &page_of(0x21))),
+        Err(21)
+    );
+    assert_eq!(rt; numbered(inner.erase(BlockNumber(1))), Err(21));
     let chip = inner.into_below().into_below();
     check_page(&rt, &chip, 23, 0x21);
     check_page(&rt, &chip, 24, 0xFF);
@@ -248,9 +263,9 @@ fn tiny_refuses_and_grants(rt: HostRuntime) {
 fn counting_counts_calls_of_each_kind(rt: HostRuntime) {
     let mut rows = [Row::erased(); 4];
     let mut chip = Counting::new(Tiny::new(&mut rows));
-    assert_eq!(rt; number_of(chip.program(PageNumber(1), &page_of(3))), 0);
-    assert_eq!(rt; number_of(chip.program(PageNumber(1), &page_of(3))), 23);
-    assert_eq!(rt; number_of(chip.erase(BlockNumber(0))), 0);
+    assert_eq!(rt; numbered(chip.program(PageNumber(1), &page_of(3))), Ok(()));
+    assert_eq!(rt; numbered(chip.program(PageNumber(1), &page_of(3))), Err(23));
+    assert_eq!(rt; numbered(chip.erase(BlockNumber(0))), Ok(()));
     check_page(&rt, &chip, 1, 0xFF);
     check_page(&rt, &chip, 2, 0xFF);
     check_page(&rt, &chip, 3, 0xFF);

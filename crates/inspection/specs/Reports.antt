@@ -31,11 +31,11 @@ none = record { erased = 0; versions = 0; deletions = 0; registers = 0; bad = 0 
 
 -- One page more.
 abbrev pub counted : Meaning → Tally → Tally
-counted Erased t = record { erased = t.erased + 1; versions = t.versions; deletions = t.deletions; registers = t.registers; bad = t.bad }
-counted (Data s b) t = record { erased = t.erased; versions = t.versions + 1; deletions = t.deletions; registers = t.registers; bad = t.bad }
-counted (Deletion s b) t = record { erased = t.erased; versions = t.versions; deletions = t.deletions + 1; registers = t.registers; bad = t.bad }
-counted (Register b held label) t = record { erased = t.erased; versions = t.versions; deletions = t.deletions; registers = t.registers + 1; bad = t.bad }
-counted (Bad cause) t = record { erased = t.erased; versions = t.versions; deletions = t.deletions; registers = t.registers; bad = t.bad + 1 }
+counted Erased t = record t { erased = t.erased + 1 }
+counted (Data s b) t = record t { versions = t.versions + 1 }
+counted (Deletion s b) t = record t { deletions = t.deletions + 1 }
+counted (Register b held label) t = record t { registers = t.registers + 1 }
+counted (Bad cause) t = record t { bad = t.bad + 1 }
 
 abbrev pub total : Tally → ℕ
 total t = t.erased + t.versions + t.deletions + t.registers + t.bad

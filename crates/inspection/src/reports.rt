@@ -7,7 +7,7 @@ ghost use Rattle.inspection.specs.Reports.{kind_of, shape_line, page_line, page_
 
 use crate::arguments::Make;
 use crate::descriptions::describe;
-use chip::{Chip, PAGE_BYTES, PageNumber};
+use chip::{BlockNumber, Chip, PAGE_BYTES, PageNumber};
 use layout::{Cause, Page, check_page};
 use std::alloc::{AllocError, Global};
 use std::fmt::Write;
@@ -70,9 +70,8 @@ fn write_page_line<C: Chip>(
     ensures { OnOk result (string_bytes text.new ≡ string_bytes text.old ++ page_line C.Chip.per number.0 (described (answer checked))) }
 {
     if let Some(words) = describe(*text.allocator(), checked)? {
-        let page = number.0;
-        let (block, place) = C::split(number);
-        let block = block.0;
+        let PageNumber(page) = number;
+        let (BlockNumber(block), place) = C::split(number);
         writeln!(text, "page {page}, block {block}, place {place}: {words}")?;
     }
     Ok(())

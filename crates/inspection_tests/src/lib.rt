@@ -13,11 +13,10 @@ mod tests {
     use std::test::Fail;
 
     fn arguments(heap: Global, texts: &[&str]) -> Result<Vec<String>, AllocError> {
-        let mut strings = Vec::new(heap);
-        for text in texts {
-            strings.push(String::from_str(heap, text)?)?;
-        }
-        Ok(strings)
+        texts
+            .iter()
+            .map(|text| String::from_str(heap, text))
+            .try_collect(heap)
     }
 
     fn expect_refusal(
@@ -27,13 +26,8 @@ mod tests {
         fault: UsageFault,
     ) -> Result<(), Fail> {
         let arguments = arguments(heap, texts)?;
-        match parse_arguments(arguments.as_slice()) {
-            Ok(_) => Err(Fail::new("accepted")),
-            Err(found) => {
-                assert_eq!(rt; found, fault);
-                Ok(())
-            },
-        }
+        assert_eq!(rt; parse_arguments(arguments.as_slice()), Err(fault));
+        Ok(())
     }
 
     #[test]
@@ -98,9 +92,7 @@ mod tests {
     #[test]
     fn pairs_bytes(rt: HostRuntime) -> Result<(), Fail> {
         let words = words_of(rt.alloc(), &[0x34, 0x12, 0xFF, 0x00, 0x77])?;
-        assert!(rt; words.len() == 2);
-        assert_eq!(rt; words[0], 0x1234);
-        assert_eq!(rt; words[1], 0x00FF);
+        assert_eq!(rt; words.as_slice(), [0x1234, 0x00FF].as_slice());
         Ok(())
     }
 
@@ -110,9 +102,9 @@ mod tests {
         let chip = Nand::new(&mut bytes);
         let left = left_over(16895, &chip);
         let text = report(rt.alloc(), Make::Nand, left, &chip)?;
-        assert!(rt;
-            text.as_str()
-                == "nand chip: 0 blocks of 32 pages, 16895 bytes left over\n0 pages: erased 0, data 0, deletion 0, register 0, bad 0\n"
+        assert_eq!(rt;
+            text.as_str(),
+            "nand chip: 0 blocks of 32 pages, 16895 bytes left over\n0 pages: erased 0, data 0, deletion 0, register 0, bad 0\n"
         );
         Ok(())
     }
@@ -124,9 +116,9 @@ mod tests {
         let chip = Nor::new(&mut words);
         let left = left_over(bytes.len(), &chip);
         let text = report(rt.alloc(), Make::Nor, left, &chip)?;
-        assert!(rt;
-            text.as_str()
-                == "nor chip: 1 blocks of 8 pages, 7 bytes left over\n8 pages: erased 8, data 0, deletion 0, register 0, bad 0\n"
+        assert_eq!(rt;
+            text.as_str(),
+            "nor chip: 1 blocks of 8 pages, 7 bytes left over\n8 pages: erased 8, data 0, deletion 0, register 0, bad 0\n"
         );
         Ok(())
     }

@@ -3,38 +3,33 @@
 
 #[cfg(test)]
 mod tests {
-    use chip::SectorNumber;
     use layout::*;
     use layout_write::*;
     use limits::*;
     use std::process::Abort;
     use std::test::Fail;
+    use test_pages::{data_page, register_page, version};
 
-    // Bytes that are written over a page from a place on, and the cause that comes of it; 0 is none.
+    // Bytes that are written over a page from a place on, and the cause that comes of it.
     #[derive(Clone, Copy)]
     struct Change<'a> {
         at: usize,
         bytes: &'a [u8],
-        cause: u8,
+        cause: Option<u8>,
     }
 
-    fn case(at: usize, bytes: &[u8], cause: u8) -> Change<'_> {
+    fn case(at: usize, bytes: &[u8], cause: Option<u8>) -> Change<'_> {
         Change { at, bytes, cause }
     }
 
     fn write_over(page: &mut [u8; 528], at: usize, bytes: &[u8]) {
-        for i in 0..bytes.len() {
-            if at < 528 && i < 528 - at {
-                page[at + i] = bytes[i];
-            }
+        for (place, byte) in page.iter_mut().skip(at).zip(bytes) {
+            *place = *byte;
         }
     }
 
-    fn cause_of(page: &[u8; 528]) -> u8 {
-        match check_page(page) {
-            Ok(_) => 0,
-            Err(cause) => cause.number(),
-        }
+    fn cause_of(page: &[u8; 528]) -> Option<u8> {
+        check_page(page).err().map(Cause::number)
     }
 
     fn check_cases(rt: &impl Abort, page: &[u8; 528], cases: &[Change]) {
@@ -45,105 +40,73 @@ mod tests {
         }
     }
 
-    fn register(birth: u32, held: &[u32], label: &[u8]) -> Option<[u8; 528]> {
-        let held = Held::new(held)?;
-        let label = Label::new(label)?;
-        let mut page = [0; 528];
-        write_register(&Register::new(Birth::new(birth)?, held, label)?, &mut page);
-        Some(page)
-    }
-
-    fn version(sector: u32, birth: u32) -> Option<Version> {
-        let sector = Sector::new(SectorNumber(sector))?;
-        let birth = Birth::new(birth)?;
-        Some(Version { sector, birth })
-    }
-
     #[test]
     fn register_bytes(rt: HostRuntime) -> Result<(), Fail> {
-        let page = register(7, &[3], b"K7").ok_or("limits")?;
+        let page = register_page(7, &[3], b"K7").ok_or("limits")?;
         assert!(rt; page[0..14] == [8, 0, 4, 0, 12, 0, 2, 0, 3, 0, 0, 0, 0x4b, 0x37]);
-        for i in 14..512 {
-            assert_eq!(rt; page[i], 0);
-        }
+        assert!(rt; page[14..512].iter().all(|byte| *byte == 0));
         assert!(rt; page[512..528] == [3, 0, 255, 255, 7, 0, 0, 0, 0, 0, 0, 0, 0, 0, 0, 0]);
         Ok(())
     }
 
     #[test]
     fn register_parts(rt: HostRuntime) -> Result<(), Fail> {
-        let page = register(7, &[3], b"K7").ok_or("limits")?;
-        let Some(birth) = Birth::new(7) else {
-            return Err(Fail::new("limits"));
-        };
+        let page = register_page(7, &[3], b"K7").ok_or("limits")?;
+        let birth = Birth::new(7).ok_or("limits")?;
         let parts = read_register(&page, birth)?;
-        match parts.held {
-            RegisterPart::Held { offset, bytes } => {
-                assert_eq!(rt; offset, 8);
-                assert_eq!(rt; bytes, [3, 0, 0, 0].as_slice());
-            }
-            RegisterPart::Label {
-                offset: _,
-                bytes: _,
-            } => return Err(Fail::new("not the held numbers")),
-        }
-        match parts.label {
-            RegisterPart::Label { offset, bytes } => {
-                assert_eq!(rt; offset, 12);
-                assert_eq!(rt; bytes, b"K7".as_slice());
-                Ok(())
-            }
-            RegisterPart::Held {
-                offset: _,
-                bytes: _,
-            } => Err(Fail::new("not the label")),
-        }
+        let RegisterPart::Held { offset, bytes } = parts.held else {
+            return Err(Fail::new("not the held numbers"));
+        };
+        assert_eq!(rt; offset, 8);
+        assert_eq!(rt; bytes, [3, 0, 0, 0].as_slice());
+        let RegisterPart::Label { offset, bytes } = parts.label else {
+            return Err(Fail::new("not the label"));
+        };
+        assert_eq!(rt; offset, 12);
+        assert_eq!(rt; bytes, b"K7".as_slice());
+        Ok(())
     }
 
     // Kind, the byte after it, sector, birth, and the last eight bytes.
     #[test]
     fn tags(rt: HostRuntime) -> Result<(), Fail> {
-        let mut page = [0; 528];
-        let Some(found) = version(5, 6) else {
-            return Err(Fail::new("limits"));
-        };
-        write_data(found, &[0x41; 512], &mut page);
+        let page = data_page(5, 6, &[0x41; 512]).ok_or("limits")?;
         check_cases(
             &rt,
             &page,
             &[
-                case(512, &[0], 30),
-                case(512, &[1], 0),
-                case(512, &[2], 31),
-                case(512, &[3], 30),
-                case(512, &[4], 30),
-                case(512, &[255], 30),
-                case(513, &[1], 30),
-                case(514, &[0xff, 0x07], 0),
-                case(514, &[0x00, 0x08], 30),
-                case(514, &[0xff, 0xff], 30),
-                case(516, &[0, 0, 0, 0], 30),
-                case(516, &[1, 0, 0, 0], 0),
-                case(516, &[0xfe, 0xff, 0xff, 0xff], 0),
-                case(516, &[0xff, 0xff, 0xff, 0xff], 30),
+                case(512, &[0], Some(30)),
+                case(512, &[1], None),
+                case(512, &[2], Some(31)),
+                case(512, &[3], Some(30)),
+                case(512, &[4], Some(30)),
+                case(512, &[255], Some(30)),
+                case(513, &[1], Some(30)),
+                case(514, &[0xff, 0x07], None),
+                case(514, &[0x00, 0x08], Some(30)),
+                case(514, &[0xff, 0xff], Some(30)),
+                case(516, &[0, 0, 0, 0], Some(30)),
+                case(516, &[1, 0, 0, 0], None),
+                case(516, &[0xfe, 0xff, 0xff, 0xff], None),
+                case(516, &[0xff, 0xff, 0xff, 0xff], Some(30)),
             ],
         );
         for i in 520..528 {
-            check_cases(&rt, &page, &[case(i, &[1], 30)]);
+            check_cases(&rt, &page, &[case(i, &[1], Some(30))]);
         }
         Ok(())
     }
 
     #[test]
     fn register_tags(rt: HostRuntime) -> Result<(), Fail> {
-        let page = register(9, &[9], b"").ok_or("limits")?;
+        let page = register_page(9, &[9], b"").ok_or("limits")?;
         check_cases(
             &rt,
             &page,
             &[
-                case(514, &[0xfe, 0xff], 30),
-                case(514, &[0, 0], 30),
-                case(514, &[0xff, 0xff], 0),
+                case(514, &[0xfe, 0xff], Some(30)),
+                case(514, &[0, 0], Some(30)),
+                case(514, &[0xff, 0xff], None),
             ],
         );
         Ok(())
@@ -151,11 +114,8 @@ mod tests {
 
     #[test]
     fn data_pages(rt: HostRuntime) -> Result<(), Fail> {
-        let Some(found) = version(2047, 4294967294) else {
-            return Err(Fail::new("limits"));
-        };
-        let mut page = [0; 528];
-        write_data(found, &[0xff; 512], &mut page);
+        let found = version(2047, 4294967294).ok_or("limits")?;
+        let page = data_page(2047, 4294967294, &[0xff; 512]).ok_or("limits")?;
         assert_eq!(rt; check_page(&page)?.tag(), Tag::Data(found));
         assert!(rt; page[512..528] == [1, 0, 255, 7, 254, 255, 255, 255, 0, 0, 0, 0, 0, 0, 0, 0]);
         Ok(())
@@ -164,9 +124,7 @@ mod tests {
     // The tag is checked before the data.
     #[test]
     fn deletions(rt: HostRuntime) -> Result<(), Fail> {
-        let Some(found) = version(0, 1) else {
-            return Err(Fail::new("limits"));
-        };
+        let found = version(0, 1).ok_or("limits")?;
         let mut page = [0xff; 528];
         write_deletion(found, &mut page);
         assert_eq!(rt; check_page(&page)?.tag(), Tag::Deletion(found));
@@ -174,10 +132,10 @@ mod tests {
             &rt,
             &page,
             &[
-                case(0, &[1], 31),
-                case(300, &[0x80], 31),
-                case(511, &[1], 31),
-                case(511, &[1, 2, 1], 30),
+                case(0, &[1], Some(31)),
+                case(300, &[0x80], Some(31)),
+                case(511, &[1], Some(31)),
+                case(511, &[1, 2, 1], Some(30)),
             ],
         );
         Ok(())
@@ -189,8 +147,8 @@ mod tests {
         let page = [0xff; 528];
         assert_eq!(rt; check_page(&page)?.tag(), Tag::Erased);
         for i in 0..528 {
-            check_cases(&rt, &page, &[case(i, &[0xfe], 30)]);
-            check_cases(&rt, &page, &[case(i, &[0x7f], 30)]);
+            check_cases(&rt, &page, &[case(i, &[0xfe], Some(30))]);
+            check_cases(&rt, &page, &[case(i, &[0x7f], Some(30))]);
         }
         Ok(())
     }
@@ -198,30 +156,30 @@ mod tests {
     // Offsets and lengths, also with bad held numbers and with bytes after the label.
     #[test]
     fn register_pairs(rt: HostRuntime) -> Result<(), Fail> {
-        let page = register(9, &[3, 7], b"K7").ok_or("limits")?;
+        let page = register_page(9, &[3, 7], b"K7").ok_or("limits")?;
         check_cases(
             &rt,
             &page,
             &[
-                case(0, &[8, 0, 8, 0, 16, 0, 2, 0], 0),
-                case(0, &[7, 0], 32),
-                case(0, &[9, 0], 32),
-                case(0, &[8, 1], 32),
-                case(0, &[12, 0], 32),
-                case(0, &[0xff, 0xff], 32),
-                case(2, &[7, 0], 32),
-                case(2, &[5, 0, 13, 0], 32),
-                case(2, &[0xff, 0xff], 32),
-                case(2, &[0xfc, 0xff, 0x04, 0x00], 32),
-                case(4, &[15, 0], 32),
-                case(4, &[17, 0], 32),
-                case(4, &[0xff, 0xff], 32),
-                case(6, &[32, 0], 0),
-                case(6, &[33, 0], 32),
-                case(6, &[2, 1], 32),
-                case(6, &[0xff, 0xff], 32),
-                case(4, &[17, 0, 2, 0, 9, 0, 0, 0, 3], 32),
-                case(6, &[33, 0, 9, 0, 0, 0, 3], 32),
+                case(0, &[8, 0, 8, 0, 16, 0, 2, 0], None),
+                case(0, &[7, 0], Some(32)),
+                case(0, &[9, 0], Some(32)),
+                case(0, &[8, 1], Some(32)),
+                case(0, &[12, 0], Some(32)),
+                case(0, &[0xff, 0xff], Some(32)),
+                case(2, &[7, 0], Some(32)),
+                case(2, &[5, 0, 13, 0], Some(32)),
+                case(2, &[0xff, 0xff], Some(32)),
+                case(2, &[0xfc, 0xff, 0x04, 0x00], Some(32)),
+                case(4, &[15, 0], Some(32)),
+                case(4, &[17, 0], Some(32)),
+                case(4, &[0xff, 0xff], Some(32)),
+                case(6, &[32, 0], None),
+                case(6, &[33, 0], Some(32)),
+                case(6, &[2, 1], Some(32)),
+                case(6, &[0xff, 0xff], Some(32)),
+                case(4, &[17, 0, 2, 0, 9, 0, 0, 0, 3], Some(32)),
+                case(6, &[33, 0, 9, 0, 0, 0, 3], Some(32)),
             ],
         );
         Ok(())
@@ -230,40 +188,40 @@ mod tests {
     // Eight held numbers, and nine, which are too many before they are falling.
     #[test]
     fn held_count(rt: HostRuntime) -> Result<(), Fail> {
-        let page = register(9, &[1, 2, 3, 4, 5, 6, 7, 8], b"").ok_or("limits")?;
+        let page = register_page(9, &[1, 2, 3, 4, 5, 6, 7, 8], b"").ok_or("limits")?;
         check_cases(
             &rt,
             &page,
             &[
-                case(2, &[32, 0, 40, 0], 0),
-                case(2, &[36, 0, 44, 0], 32),
-                case(40, &[9], 34),
+                case(2, &[32, 0, 40, 0], None),
+                case(2, &[36, 0, 44, 0], Some(32)),
+                case(40, &[9], Some(34)),
             ],
         );
         let mut longer = page;
         write_over(&mut longer, 2, &[36, 0, 44, 0]);
-        check_cases(&rt, &longer, &[case(40, &[9], 32)]);
+        check_cases(&rt, &longer, &[case(40, &[9], Some(32))]);
         Ok(())
     }
 
     // The held numbers 3 and 7 of a register of birth 9 stand at 8 and at 12.
     #[test]
     fn held_numbers(rt: HostRuntime) -> Result<(), Fail> {
-        let page = register(9, &[3, 7], b"K7").ok_or("limits")?;
+        let page = register_page(9, &[3, 7], b"K7").ok_or("limits")?;
         check_cases(
             &rt,
             &page,
             &[
-                case(8, &[0], 33),
-                case(8, &[1], 0),
-                case(8, &[6], 0),
-                case(8, &[7], 33),
-                case(8, &[8], 33),
-                case(12, &[9], 0),
-                case(12, &[10], 33),
-                case(15, &[1], 33),
-                case(516, &[7], 0),
-                case(516, &[6], 33),
+                case(8, &[0], Some(33)),
+                case(8, &[1], None),
+                case(8, &[6], None),
+                case(8, &[7], Some(33)),
+                case(8, &[8], Some(33)),
+                case(12, &[9], None),
+                case(12, &[10], Some(33)),
+                case(15, &[1], Some(33)),
+                case(516, &[7], None),
+                case(516, &[6], Some(33)),
             ],
         );
         Ok(())
@@ -272,32 +230,36 @@ mod tests {
     // The bytes after the label, also with bad held numbers.
     #[test]
     fn tails(rt: HostRuntime) -> Result<(), Fail> {
-        let mut page = register(9, &[3, 7], b"K7").ok_or("limits")?;
+        let mut page = register_page(9, &[3, 7], b"K7").ok_or("limits")?;
         check_cases(
             &rt,
             &page,
             &[
-                case(17, &[0], 0),
-                case(18, &[1], 34),
-                case(511, &[1], 34),
-                case(511, &[1, 4], 30),
+                case(17, &[0], None),
+                case(18, &[1], Some(34)),
+                case(511, &[1], Some(34)),
+                case(511, &[1, 4], Some(30)),
             ],
         );
         write_over(&mut page, 511, &[1]);
-        check_cases(&rt, &page, &[case(12, &[2], 33), case(4, &[17], 32)]);
+        check_cases(
+            &rt,
+            &page,
+            &[case(12, &[2], Some(33)), case(4, &[17], Some(32))],
+        );
         Ok(())
     }
 
     // A label of 32 bytes, and the values outside the limits.
     #[test]
     fn limits_of_values(rt: HostRuntime) -> Result<(), Fail> {
-        let page = register(4294967294, &[1, 4294967294], &[0xff; 32]).ok_or("limits")?;
-        assert_eq!(rt; cause_of(&page), 0);
-        assert!(rt; register(9, &[], &[0; 33]).is_none());
-        assert!(rt; register(9, &[1, 2, 3, 4, 5, 6, 7, 8, 9], b"").is_none());
-        assert!(rt; register(9, &[10], b"").is_none());
-        assert!(rt; register(9, &[0], b"").is_none());
-        assert!(rt; register(9, &[3, 3], b"").is_none());
+        let page = register_page(4294967294, &[1, 4294967294], &[0xff; 32]).ok_or("limits")?;
+        assert_eq!(rt; cause_of(&page), None);
+        assert!(rt; register_page(9, &[], &[0; 33]).is_none());
+        assert!(rt; register_page(9, &[1, 2, 3, 4, 5, 6, 7, 8, 9], b"").is_none());
+        assert!(rt; register_page(9, &[10], b"").is_none());
+        assert!(rt; register_page(9, &[0], b"").is_none());
+        assert!(rt; register_page(9, &[3, 3], b"").is_none());
         assert!(rt; version(2048, 1).is_none());
         assert!(rt; version(2047, 0).is_none());
         assert!(rt; version(2047, 4294967295).is_none());
@@ -307,7 +269,7 @@ mod tests {
 
     #[test]
     fn registers_are_copied(rt: HostRuntime) -> Result<(), Fail> {
-        let page = register(9, &[3, 7], b"K7").ok_or("limits")?;
+        let page = register_page(9, &[3, 7], b"K7").ok_or("limits")?;
         let Page::Register(found) = check_page(&page)? else {
             return Err(Fail::new("not a register"));
         };

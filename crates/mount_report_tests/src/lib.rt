@@ -6,26 +6,25 @@ mod tests {
     use chip::SectorNumber;
     use inspection::arguments::Make;
     use mount_report::{image_report, mount_lines};
-    use nand::Nand;
-    use nor::Nor;
-    use refusals::Refusal;
+    use nand::{BLOCK_BYTES, Nand};
+    use nor::{BLOCK_WORDS, Nor};
     use rules::Tick;
     use std::alloc::Global;
     use std::process::Abort;
     use std::test::Fail;
     use store::Store;
 
-    // The words of a block of a NOR chip.
-    const BLOCK_WORDS: usize = 2112;
-
-    // The bytes of a block of a NAND chip.
-    const BLOCK_BYTES: usize = 16896;
-
-    fn granted<T: Drop>(answer: Result<T, Refusal>) -> Result<(), Fail> {
-        match answer {
-            Ok(_) => Ok(()),
-            Err(_) => Err(Fail::new("refused")),
-        }
+    // Makes calls on a closed store over a NOR chip, which is let go afterwards.
+    fn on_store<F: FnOnce(&mut Store<Nor<'_>>) -> Result<(), Fail>>(
+        words: &mut [u16],
+        calls: F,
+    ) -> Result<(), Fail>
+        requires { F.IsAlwaysCallable calls }
+    {
+        let mut store = Store::new(Nor::new(words));
+        let outcome = calls(&mut store);
+        let _ = store.unmount();
+        outcome
     }
 
     fn expect_lines(
@@ -35,7 +34,7 @@ mod tests {
         lines: &str,
     ) -> Result<(), Fail> {
         let text = mount_lines(heap, store)?;
-        assert!(rt; text.as_str() == lines);
+        assert_eq!(rt; text.as_str(), lines);
         Ok(())
     }
 
@@ -43,15 +42,15 @@ mod tests {
     // second a third sector is written.
     fn check_states(rt: &impl Abort, heap: Global, store: &mut Store<Nor<'_>>) -> Result<(), Fail> {
         let bytes = [0x5A; 512];
-        granted(store.format(b"K\"7"))?;
-        granted(store.write(SectorNumber(5), &bytes))?;
-        granted(store.write(SectorNumber(2047), &bytes))?;
-        granted(store.freeze())?;
-        granted(store.write(SectorNumber(5), &bytes))?;
-        granted(store.delete(SectorNumber(2047)))?;
-        granted(store.freeze())?;
-        granted(store.write(SectorNumber(0), &bytes))?;
-        granted(store.close())?;
+        store.format(b"K\"7")?;
+        store.write(SectorNumber(5), &bytes)?;
+        store.write(SectorNumber(2047), &bytes)?;
+        store.freeze()?;
+        store.write(SectorNumber(5), &bytes)?;
+        store.delete(SectorNumber(2047))?;
+        store.freeze()?;
+        store.write(SectorNumber(0), &bytes)?;
+        store.close()?;
         expect_lines(
             rt,
             heap,
@@ -63,24 +62,21 @@ mod tests {
     #[test]
     fn a_granted_mount_lists_each_state(rt: HostRuntime) -> Result<(), Fail> {
         let mut words = vec![in rt.alloc(); 0xFFFFu16; 3 * BLOCK_WORDS]?;
-        let mut store = Store::new(Nor::new(&mut words));
-        let outcome = check_states(&rt, rt.alloc(), &mut store);
-        let _ = store.unmount();
-        outcome
+        on_store(&mut words, |store| check_states(&rt, rt.alloc(), store))
     }
 
     fn check_empty(rt: &impl Abort, heap: Global, store: &mut Store<Nor<'_>>) -> Result<(), Fail> {
-        granted(store.format(b""))?;
-        granted(store.freeze())?;
-        granted(store.close())?;
+        store.format(b"")?;
+        store.freeze()?;
+        store.close()?;
         expect_lines(
             rt,
             heap,
             store,
             "mount: 0, clock 2, held 2, label \"\", needed 0 of 6\npresent: none\nstate 2: none\n",
         )?;
-        granted(store.release(Tick(2)))?;
-        granted(store.close())?;
+        store.release(Tick(2))?;
+        store.close()?;
         expect_lines(
             rt,
             heap,
@@ -92,19 +88,16 @@ mod tests {
     #[test]
     fn an_empty_store_lists_none(rt: HostRuntime) -> Result<(), Fail> {
         let mut words = vec![in rt.alloc(); 0xFFFFu16; 2 * BLOCK_WORDS]?;
-        let mut store = Store::new(Nor::new(&mut words));
-        let outcome = check_empty(&rt, rt.alloc(), &mut store);
-        let _ = store.unmount();
-        outcome
+        on_store(&mut words, |store| check_empty(&rt, rt.alloc(), store))
     }
 
     #[test]
     fn an_erased_chip_is_no_store(rt: HostRuntime) -> Result<(), Fail> {
         let mut words = vec![in rt.alloc(); 0xFFFFu16; 2 * BLOCK_WORDS]?;
         let text = image_report(rt.alloc(), Make::Nor, 8448, Nor::new(&mut words))?;
-        assert!(rt;
-            text.as_str()
-                == "nor chip: 2 blocks of 8 pages, 0 bytes left over\nmount: 6\n16 pages: erased 16, data 0, deletion 0, register 0, bad 0\n"
+        assert_eq!(rt;
+            text.as_str(),
+            "nor chip: 2 blocks of 8 pages, 0 bytes left over\nmount: 6\n16 pages: erased 16, data 0, deletion 0, register 0, bad 0\n"
         );
         Ok(())
     }
@@ -113,9 +106,9 @@ mod tests {
     fn one_block_is_too_small(rt: HostRuntime) -> Result<(), Fail> {
         let mut bytes = vec![in rt.alloc(); 0xFFu8; BLOCK_BYTES]?;
         let text = image_report(rt.alloc(), Make::Nand, BLOCK_BYTES, Nand::new(&mut bytes))?;
-        assert!(rt;
-            text.as_str()
-                == "nand chip: 1 blocks of 32 pages, 0 bytes left over\nmount: 3\n32 pages: erased 32, data 0, deletion 0, register 0, bad 0\n"
+        assert_eq!(rt;
+            text.as_str(),
+            "nand chip: 1 blocks of 32 pages, 0 bytes left over\nmount: 3\n32 pages: erased 32, data 0, deletion 0, register 0, bad 0\n"
         );
         Ok(())
     }

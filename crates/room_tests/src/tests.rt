@@ -1,4 +1,4 @@
-use chip::{BlockNumber, Chip, ChipFault, PAGE_BYTES, PageNumber};
+use chip::{BlockNumber, Chip, PAGE_BYTES, PageNumber};
 use limits::{Held, Label};
 use room::{clean_block, make_room, purge};
 use std::process::Abort;
@@ -41,28 +41,6 @@ fn index() -> Option<Index> {
     Some(ix)
 }
 
-// The number of an answer: 0 where it is granted.
-fn number_of(answer: Result<(), ChipFault>) -> u8 {
-    match answer {
-        Ok(()) => 0,
-        Err(fault) => fault.number(),
-    }
-}
-
-fn page_of(answer: Result<PageNumber, ChipFault>) -> Option<u32> {
-    match answer {
-        Ok(page) => Some(page.0),
-        Err(_) => None,
-    }
-}
-
-fn count_of(answer: Result<usize, ChipFault>) -> Option<usize> {
-    match answer {
-        Ok(n) => Some(n),
-        Err(_) => None,
-    }
-}
-
 // Page k of the first four is of the byte k.
 fn rows() -> [Row; 6] {
     [
@@ -77,7 +55,7 @@ fn rows() -> [Row; 6] {
 
 fn check_page<C: Chip>(rt: &impl Abort, chip: &C, page: u32, byte: u8) {
     let mut buffer = [7u8; PAGE_BYTES];
-    assert_eq!(rt; number_of(chip.read(PageNumber(page), &mut buffer)), 0);
+    assert_eq!(rt; chip.read(PageNumber(page), &mut buffer), Ok(()));
     assert!(rt; buffer == [byte; PAGE_BYTES]);
 }
 
@@ -86,10 +64,8 @@ fn check_page<C: Chip>(rt: &impl Abort, chip: &C, page: u32, byte: u8) {
 fn makes_room_by_one_block(rt: HostRuntime) -> Result<(), Fail> {
     let mut rows = rows();
     let mut chip = Counting::new(Tiny::new(&mut rows));
-    let Some(mut ix) = index() else {
-        return Err(Fail::new("no index"));
-    };
-    assert_eq!(rt; page_of(make_room(&mut chip, &mut ix, NO_LIMIT)), Some(5));
+    let mut ix = index().ok_or("no index")?;
+    assert_eq!(rt; make_room(&mut chip, &mut ix, NO_LIMIT), Ok(PageNumber(5)));
     assert_eq!(rt; chip.reads(), 1);
     assert_eq!(rt; chip.programs(), 1);
     assert_eq!(rt; chip.erases(), 1);
@@ -97,7 +73,7 @@ fn makes_room_by_one_block(rt: HostRuntime) -> Result<(), Fail> {
     check_page(&rt, &chip, 4, 0);
     check_page(&rt, &chip, 0, 0xFF);
     check_page(&rt, &chip, 1, 0xFF);
-    assert_eq!(rt; page_of(make_room(&mut chip, &mut ix, NO_LIMIT)), Some(5));
+    assert_eq!(rt; make_room(&mut chip, &mut ix, NO_LIMIT), Ok(PageNumber(5)));
     assert_eq!(rt; chip.erases(), 1);
     Ok(())
 }
@@ -106,17 +82,9 @@ fn makes_room_by_one_block(rt: HostRuntime) -> Result<(), Fail> {
 fn cleans_until_nothing_is_stale(rt: HostRuntime) -> Result<(), Fail> {
     let mut rows = rows();
     let mut chip = Counting::new(Tiny::new(&mut rows));
-    let Some(mut ix) = index() else {
-        return Err(Fail::new("no index"));
-    };
-    assert_eq!(rt;
-        count_of(clean_block(&mut chip, &mut ix, NO_LIMIT)),
-        Some(1)
-    );
-    assert_eq!(rt;
-        count_of(clean_block(&mut chip, &mut ix, NO_LIMIT)),
-        Some(0)
-    );
+    let mut ix = index().ok_or("no index")?;
+    assert_eq!(rt; clean_block(&mut chip, &mut ix, NO_LIMIT), Ok(1));
+    assert_eq!(rt; clean_block(&mut chip, &mut ix, NO_LIMIT), Ok(0));
     assert_eq!(rt; chip.erases(), 1);
     Ok(())
 }
@@ -126,10 +94,8 @@ fn cleans_until_nothing_is_stale(rt: HostRuntime) -> Result<(), Fail> {
 fn purges_what_was_born_later(rt: HostRuntime) -> Result<(), Fail> {
     let mut rows = rows();
     let mut chip = Counting::new(Tiny::new(&mut rows));
-    let Some(mut ix) = index() else {
-        return Err(Fail::new("no index"));
-    };
-    assert_eq!(rt; number_of(purge(&mut chip, &mut ix, 3)), 0);
+    let mut ix = index().ok_or("no index")?;
+    assert_eq!(rt; purge(&mut chip, &mut ix, 3), Ok(()));
     assert_eq!(rt; chip.programs(), 1);
     assert_eq!(rt; chip.erases(), 1);
     check_page(&rt, &chip, 4, 2);
@@ -137,7 +103,7 @@ fn purges_what_was_born_later(rt: HostRuntime) -> Result<(), Fail> {
     check_page(&rt, &chip, 1, 1);
     let page_of_5 = ix.map[5];
     assert_eq!(rt; page_of_5, 4);
-    assert_eq!(rt; number_of(purge(&mut chip, &mut ix, 3)), 0);
+    assert_eq!(rt; purge(&mut chip, &mut ix, 3), Ok(()));
     assert_eq!(rt; chip.erases(), 1);
     Ok(())
 }

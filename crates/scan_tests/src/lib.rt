@@ -4,6 +4,4 @@
 #[cfg(test)]
 mod mounting_tests;
 #[cfg(test)]
-mod pages;
-#[cfg(test)]
 mod scan_tests;

@@ -1,52 +1,46 @@
-use crate::pages::{data_page, register_page};
 use chip::{Chip, PAGE_BYTES, PageNumber};
 use mounting::mount_index;
 use nor::Nor;
+use refusals::Refusal;
 use std::test::Fail;
+use test_pages::{data_page, register_page};
 
-// The number that mount answers for a chip of `blocks` NOR blocks with these pages from page 0 on.
-fn verdict(words: &mut [u16], pages: &[[u8; PAGE_BYTES]]) -> u8 {
+// Whether mount grants a chip of NOR blocks with these pages from page 0 on, or its number.
+fn verdict(words: &mut [u16], pages: &[[u8; PAGE_BYTES]]) -> Result<(), u8> {
     let mut chip = Nor::new(words);
-    let mut number = 0;
-    for page in pages {
+    for (number, page) in (0..).zip(pages) {
         let _ = chip.program(PageNumber(number), page);
-        number = number.saturating_add(1);
     }
-    match mount_index(&chip) {
-        Ok(_) => 0,
-        Err(refusal) => refusal.number(),
-    }
+    mount_index(&chip).map(|_| ()).map_err(Refusal::number)
 }
 
 #[test]
 fn mount_refuses_by_size_then_page_then_store(rt: HostRuntime) -> Result<(), Fail> {
-    let register = register_page(1, &[]).ok_or("limits")?;
+    let register = register_page(1, &[], b"K7").ok_or("limits")?;
     let mut one = [0xFFFFu16; 2112];
-    assert_eq!(rt; verdict(&mut one, &[[0; PAGE_BYTES]]), 3);
+    assert_eq!(rt; verdict(&mut one, &[[0; PAGE_BYTES]]), Err(3));
     let mut bad = [0xFFFFu16; 2 * 2112];
-    assert_eq!(rt; verdict(&mut bad, &[register, [0; PAGE_BYTES]]), 5);
+    assert_eq!(rt; verdict(&mut bad, &[register, [0; PAGE_BYTES]]), Err(5));
     let mut empty = [0xFFFFu16; 2 * 2112];
-    assert_eq!(rt; verdict(&mut empty, &[]), 6);
+    assert_eq!(rt; verdict(&mut empty, &[]), Err(6));
     let mut twice = [0xFFFFu16; 2 * 2112];
-    assert_eq!(rt; verdict(&mut twice, &[register, register]), 6);
+    assert_eq!(rt; verdict(&mut twice, &[register, register]), Err(6));
     let mut good = [0xFFFFu16; 2 * 2112];
-    assert_eq!(rt; verdict(&mut good, &[register]), 0);
+    assert_eq!(rt; verdict(&mut good, &[register]), Ok(()));
     Ok(())
 }
 
 #[test]
 fn mount_fills_the_tables(rt: HostRuntime) -> Result<(), Fail> {
-    let register = register_page(7, &[3]).ok_or("limits")?;
-    let old = data_page(5, 2).ok_or("limits")?;
-    let new = data_page(5, 8).ok_or("limits")?;
+    let register = register_page(7, &[3], b"K7").ok_or("limits")?;
+    let old = data_page(5, 2, &[65; 512]).ok_or("limits")?;
+    let new = data_page(5, 8, &[65; 512]).ok_or("limits")?;
     let mut words = [0xFFFFu16; 4 * 2112];
     let mut chip = Nor::new(&mut words);
     assert!(rt; chip.program(PageNumber(9), &register).is_ok());
     assert!(rt; chip.program(PageNumber(1), &new).is_ok());
     assert!(rt; chip.program(PageNumber(12), &old).is_ok());
-    let Ok(index) = mount_index(&chip) else {
-        return Err(Fail::new("refused"));
-    };
+    let index = mount_index(&chip)?;
     assert_eq!(rt; index.pages, 32);
     assert_eq!(rt; index.clock, 8);
     assert_eq!(rt; index.newest, 7);

@@ -1,38 +1,34 @@
-use crate::pages::register_page;
 use chip::{PAGE_BYTES, PageNumber};
 use layout::{Cause, Tag};
 use limits::Birth;
 use scan::{BadPage, scan};
 use std::test::Fail;
 use test_chips::{Row, Tiny};
+use test_pages::register_page;
 
-// The birth of the youngest register of a chip of two pages, 0 where there is none.
-fn youngest(first: [u8; PAGE_BYTES], second: [u8; PAGE_BYTES]) -> Result<u32, BadPage> {
+// The birth of the youngest register of a chip of two pages.
+fn youngest(first: [u8; PAGE_BYTES], second: [u8; PAGE_BYTES]) -> Result<Option<u32>, BadPage> {
     let mut rows = [Row::new(first), Row::new(second)];
     let mut table = [Tag::Erased; 2];
-    match scan(&Tiny::new(&mut rows), &mut table)? {
-        Some(register) => Ok(register.birth.number),
-        None => Ok(0),
-    }
+    let register = scan(&Tiny::new(&mut rows), &mut table)?;
+    Ok(register.map(|register| register.birth.number))
 }
 
-fn bad(page: u32, cause: Cause) -> Result<u32, BadPage> {
-    Err(BadPage {
-        page: PageNumber(page),
-        cause,
-    })
+fn bad(page: u32, cause: Cause) -> Result<Option<u32>, BadPage> {
+    let page = PageNumber(page);
+    Err(BadPage { page, cause })
 }
 
 #[test]
 fn the_lowest_bad_page_is_told(rt: HostRuntime) -> Result<(), Fail> {
     let erased = [0xFF; PAGE_BYTES];
-    let good = register_page(7, &[3]).ok_or("limits")?;
+    let good = register_page(7, &[3], b"K7").ok_or("limits")?;
     let mut tail = good;
     tail[511] = 1;
     let mut held = good;
     held[8] = 8;
-    assert_eq!(rt; youngest(erased, erased), Ok(0));
-    assert_eq!(rt; youngest(erased, good), Ok(7));
+    assert_eq!(rt; youngest(erased, erased), Ok(None));
+    assert_eq!(rt; youngest(erased, good), Ok(Some(7)));
     assert_eq!(rt; youngest(good, tail), bad(1, Cause::Tail));
     assert_eq!(rt; youngest(tail, good), bad(0, Cause::Tail));
     assert_eq!(rt; youngest(held, tail), bad(0, Cause::Held));
@@ -42,20 +38,18 @@ fn the_lowest_bad_page_is_told(rt: HostRuntime) -> Result<(), Fail> {
 
 #[test]
 fn the_youngest_register_is_told(rt: HostRuntime) -> Result<(), Fail> {
-    let old = register_page(7, &[3]).ok_or("limits")?;
-    let young = register_page(8, &[]).ok_or("limits")?;
-    assert_eq!(rt; youngest(old, young), Ok(8));
-    assert_eq!(rt; youngest(young, old), Ok(8));
-    assert_eq!(rt; youngest(old, old), Ok(7));
+    let old = register_page(7, &[3], b"K7").ok_or("limits")?;
+    let young = register_page(8, &[], b"K7").ok_or("limits")?;
+    assert_eq!(rt; youngest(old, young), Ok(Some(8)));
+    assert_eq!(rt; youngest(young, old), Ok(Some(8)));
+    assert_eq!(rt; youngest(old, old), Ok(Some(7)));
     Ok(())
 }
 
 #[test]
 fn a_table_may_be_longer_or_shorter_than_the_chip(rt: HostRuntime) -> Result<(), Fail> {
-    let second = register_page(7, &[3]).ok_or("limits")?;
-    let Some(birth) = Birth::new(7) else {
-        return Err(Fail::new("limits"));
-    };
+    let second = register_page(7, &[3], b"K7").ok_or("limits")?;
+    let birth = Birth::new(7).ok_or("limits")?;
     let mut rows = [Row::erased(), Row::new(second)];
     let chip = Tiny::new(&mut rows);
     let mut long = [Tag::Register(birth); 3];
