@@ -111,7 +111,7 @@ fn read_page<C: Chip>(chip: &C, number: PageNumber) -> [u8; PAGE_BYTES]
     page
 }
 
-// Writes the lines of the chip's pages, and counts the pages.
+// Writes the lines of the chip's pages, and counts the pages. A chip reads a page by its number only.
 fn write_page_lines<C: Chip>(text: &mut String, chip: &C) -> Result<Tally, AllocError>
     ensures tally { IfOk result (λ tally. tally ≡ tally_of (C.Chip.pages chip.now)) }
     ensures text { OnOk result (string_bytes text.new ≡ string_bytes text.old ++ page_lines C.Chip.per 0 (C.Chip.pages chip.now)) }

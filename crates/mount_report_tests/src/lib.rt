@@ -14,7 +14,8 @@ mod tests {
     use std::test::Fail;
     use store::Store;
 
-    // Makes calls on a closed store over a NOR chip, which is let go afterwards.
+    // Makes calls on a closed store over a NOR chip, which is let go afterwards. The one of store_tests
+    // is shared by no crate: it would be public, and public functions have no `requires` here.
     fn on_store<F: FnOnce(&mut Store<Nor<'_>>) -> Result<(), Fail>>(
         words: &mut [u16],
         calls: F,

@@ -1,4 +1,4 @@
-// What the tests of this crate share.
+// What the tests of this crate share. It is not in test_hands: public functions have no `requires`.
 use chip::Chip;
 use refusals::Refusal;
 use rules::Tick;
