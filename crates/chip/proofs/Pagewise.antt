@@ -1,8 +1,11 @@
 -- A list of pages after a call, shown page by page, and an erased page, byte by byte.
-use Rattle.std.proofs.Common.{◌≡◌, ℕ, zero, suc, ◌+◌, ◌-◌, ◌<◌, ◌≤◌, true, eqb, ◌≢◌, ◌⊎◌, List, [], ◌∷◌, ◌++◌, length, get_or, take, drop, set, replicate, sym, refl, ap, ◌∙◌, inl, inr, ⊎_elim, arith, length-append, length-drop, length-set, length-take}
+use Rattle.std.proofs.Common.{◌≡◌, ℕ, zero, suc, ◌+◌, ◌-◌, ◌<◌, ◌≤◌, true, eqb, ◌≢◌, ◌⊎◌, ◌==◌, List, [], ◌++◌, length, get_or, take, drop, set, replicate, sym, refl, ap, ◌∙◌, inl, inr, ⊎_elim, arith, length-append, length-drop, length-set, length-take}
 use lib.ListN.{length-replicate}
-use Rattle.std.proofs.lemmas.List.{ext_get_or, get_or-set_same, get_or-set_other, get_or_append_left, get_or-append_right, get_or-replicate, get_or-take, get_or-drop, length-take-le}
-use Rattle.std.proofs.lemmas.Bool.{eq-eqb, eqb-true, and_parts, and_from, cases_eq, cases_lt}
+use Rattle.std.proofs.lemmas.Grind.{same_number_lists}
+use Rattle.std.proofs.lemmas.List.{ext_get_or, get_or-set_same, get_or-set_other, get_or-replicate, places}
+use Rattle.std.proofs.lemmas.List.Elements.{All-from_get_or}
+use Rattle.std.proofs.lemmas.List.Sums.{AllPass-from_list_all, list_all-from_AllPass}
+use Rattle.std.proofs.lemmas.Bool.{eq-eqb, eqb-true, cases_eq, cases_lt}
 use Rattle.chip.specs.Pages.{Page, is_erased, erased_page}
 
 -- One page is new, and the others stand.
@@ -19,20 +22,13 @@ module _ (pages : List Page) (a k : ℕ) (h : a + k ≤ length pages) where
   length_wiped = simp (length-append, length-replicate, length-take, length-drop) (omega arith)
 
   before : (q : ℕ) → q < a → get_or wiped q [] ≡ get_or pages q []
-  before q b =
-      get_or_append_left (take a pages) _ [] q (simp length-take (omega arith)) ∙ get_or-take a pages q [] b
-
-  past : (q : ℕ) → a ≤ q → get_or wiped q [] ≡ get_or (replicate k erased_page ++ drop (a + k) pages) (q - a) []
-  past q b = get_or-append_right (take a pages) _ a q [] (length-take-le a pages (omega arith)) b
+  before q b = grind (arith, places)
 
   within : (q : ℕ) → a ≤ q → q < a + k → get_or wiped q [] ≡ erased_page
-  within q b d =
-      past q b ∙ get_or_append_left (replicate k erased_page) _ [] (q - a) (simp length-replicate (omega arith)) ∙ get_or-replicate k (q - a) erased_page [] (omega arith)
+  within q b d = grind (arith, places)
 
   behind : (q : ℕ) → a + k ≤ q → get_or wiped q [] ≡ get_or pages q []
-  behind q d =
-      let e : a + k + (q - a - k) ≡ q = omega arith in
-      past q (omega arith) ∙ get_or-append_right (replicate k erased_page) _ k (q - a) [] (length-replicate k erased_page) (omega arith) ∙ get_or-drop (a + k) pages (q - a - k) [] ∙ ap (λ i. get_or pages i []) e
+  behind q d = grind (arith, places)
 
   pub erase_pagewise : (after : List Page) → length after ≡ length pages → ((q : ℕ) → a ≤ q → q < a + k → get_or after q [] ≡ erased_page) → ((q : ℕ) → q < length pages → (q < a) ⊎ (a + k ≤ q) → get_or after q [] ≡ get_or pages q []) → after ≡ wiped
   erase_pagewise after same new stand =
@@ -40,16 +36,14 @@ module _ (pages : List Page) (a k : ℕ) (h : a + k ≤ length pages) where
 
 -- Bytes are erased if each is FF, and only then.
 pub erased_bytewise : (xs : List ℕ) → ((k : ℕ) → k < length xs → get_or xs k 0 ≡ 255) → is_erased xs ≡ true
-erased_bytewise [] h = refl
-erased_bytewise (x ∷ xs) h = and_from (eqb x 255) (is_erased xs) (eq-eqb x 255 (h 0 (omega arith))) (erased_bytewise xs (λ k l. h (suc k) (omega arith)))
+erased_bytewise xs h =
+    list_all-from_AllPass (λ x. x == 255) xs (All-from_get_or (λ x. (x == 255) ≡ true) xs 0 (λ k l. eq-eqb (get_or xs k 0) 255 (h k l)))
 
 pub erased_byte : (xs : List ℕ) → is_erased xs ≡ true → (k : ℕ) → k < length xs → get_or xs k 0 ≡ 255
-erased_byte [] e k h = absurd (omega arith)
-erased_byte (x ∷ xs) e zero h = eqb-true x 255 (and_parts (eqb x 255) (is_erased xs) e).0
-erased_byte (x ∷ xs) e (suc k) h = erased_byte xs (and_parts (eqb x 255) (is_erased xs) e).1 k (omega arith)
+erased_byte xs e k h = eqb-true (get_or xs k 0) 255 (AllPass-from_list_all (λ x. x == 255) xs e k 0 h)
 
 -- 528 bytes FF are an erased page.
 pub erased_page_bytewise : (xs : List ℕ) → length xs ≡ 528 → ((k : ℕ) → k < 528 → get_or xs k 0 ≡ 255) → xs ≡ erased_page
 unfolding erased_page
 erased_page_bytewise xs l h =
-    ext_get_or 0 xs (replicate 528 255) (l ∙ sym (length-replicate {A = ℕ} 528 255)) (λ k b. h k (omega arith) ∙ sym (get_or-replicate 528 k 255 0 (omega arith)))
+    same_number_lists xs (replicate 528 255) (l ∙ sym (length-replicate {A = ℕ} 528 255)) (λ k b. h k (omega arith) ∙ sym (get_or-replicate 528 k 255 0 (omega arith)))

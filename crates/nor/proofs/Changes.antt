@@ -6,7 +6,7 @@ use lib.Bits.{bit_and}
 use lib.ListN.{length-replicate}
 use Rattle.std.proofs.lemmas.Nat.{and_comm, and_mask}
 use Rattle.std.proofs.lemmas.List.FromFn.{get_or-map-range_with_len}
-use Rattle.std.proofs.lemmas.List.{get_or-set_same, get_or-set_other, drop-set-lt, get_or_append_left, get_or-append_right, get_or-take, get_or-drop, get_or-replicate, length-take-le}
+use Rattle.std.proofs.lemmas.List.{get_or-set_same, get_or-set_other, drop-set-lt, get_or-replicate, places}
 use Rattle.std.proofs.lemmas.Slice.{drop-put_mid}
 use Rattle.std.proofs.lemmas.Bool.{cases_eq}
 use Rattle.chip.specs.Pages.{erased_page}
@@ -113,19 +113,13 @@ module _ (ws ys : List ℕ) (a k : ℕ) (fits : a + k ≤ length ws) (long : len
   length_put = simp (length-append, length-take, length-drop) (omega arith)
 
   put_before : (w : ℕ) → w < a → get_or (put_mid a k ws ys) w 0 ≡ get_or ws w 0
-  put_before w h =
-      get_or_append_left (take a ws) _ 0 w (simp length-take (omega arith)) ∙ get_or-take a ws w 0 h
-
-  put_past : (w : ℕ) → a ≤ w → get_or (put_mid a k ws ys) w 0 ≡ get_or (ys ++ drop k (drop a ws)) (w - a) 0
-  put_past w h = get_or-append_right (take a ws) _ a w 0 (length-take-le a ws (omega arith)) h
+  put_before w h = grind (arith, places)
 
   put_within : (w : ℕ) → a ≤ w → w < a + k → get_or (put_mid a k ws ys) w 0 ≡ get_or ys (w - a) 0
-  put_within w h l = put_past w h ∙ get_or_append_left ys _ 0 (w - a) (omega arith)
+  put_within w h l = grind (arith, places)
 
   put_behind : (w : ℕ) → a + k ≤ w → get_or (put_mid a k ws ys) w 0 ≡ get_or ws w 0
-  put_behind w h =
-      let e : a + (k + (w - a - k)) ≡ w = omega arith in
-      put_past w (omega arith) ∙ get_or-append_right ys _ k (w - a) 0 long (omega arith) ∙ get_or-drop k (drop a ws) (w - a - k) 0 ∙ get_or-drop a ws (k + (w - a - k)) 0 ∙ ap (λ i. get_or ws i 0) e
+  put_behind w h = grind (arith, places)
 
 -- A block of words FFFF written.
 module _ (ws ys : List ℕ) (b a k : ℕ) (hb : b < nor_blocks ws) (at : a ≡ b * 2112) (size : k ≡ 2112) (ones : ys ≡ replicate k 65535) where
