@@ -1,38 +1,29 @@
 -- Blocks of pages that say nothing.
-use Rattle.std.proofs.Common.{◌≡◌, ℕ, suc, ◌+◌, ◌-◌, ◌*◌, ◌<◌, ◌≤◌, Bool, true, false, ◌&&◌, ◌||◌, List, ◌∷◌, length, get_or, take, drop, sym, refl, ap, ◌∙◌, mul-le-mul_right, suc-mul, zero-mul, arith}
-use Rattle.std.proofs.lemmas.List.{at_drop_more, at_drop_all, drop-drop, take-map, drop-map}
+use Rattle.std.proofs.Common.{◌≡◌, ℕ, suc, ◌+◌, ◌-◌, ◌*◌, ◌<◌, ◌≤◌, Bool, true, false, ◌&&◌, ◌||◌, List, [], ◌∷◌, take, drop, sym, refl, ap, ◌∙◌, mul-le-mul_right, suc-mul, zero-mul, arith}
+use Rattle.std.specs.List.{list_all}
+use Rattle.std.proofs.lemmas.List.{drop-drop, take-map, drop-map}
 use Rattle.layout.specs.declared.pages.Tag.{Tag}
 use Rattle.layout.specs.declared.pages.Tag.TheVariants as tag
 use Rattle.readings.specs.Sayings.{Saying}
 use Rattle.readings.specs.Mount.{is_nothing, all_nothing, erased_block}
-use Rattle.mounting.specs.Tagged.{tag_saying, tag_sayings}
+use Rattle.mounting.specs.Tagged.{tag_saying, tag_sayings, is_blank}
 
 abbrev silent : List Tag → Bool
 silent ts = all_nothing (tag_sayings ts)
 
-module _ (ts : List Tag) (i : ℕ) (lt : i < length ts) (t : Tag) (at : t ≡ get_or ts i t) where
-  silent_step : silent (drop i ts) ≡ (is_nothing (tag_saying t) && silent (drop (i + 1) ts))
-  unfolding all_nothing
-  silent_step = at_drop_more silent ts i t lt ∙ ap (λ u. silent (u ∷ drop (i + 1) ts)) (sym at)
+silent_at : (t : Tag) → is_nothing (tag_saying t) ≡ is_blank t
+silent_at tag.Erased = refl
+silent_at (tag.Data v) = refl
+silent_at (tag.Deletion v) = refl
+silent_at (tag.Register b) = refl
 
-  pub silent_more : t ≡ tag.Erased → silent (drop (i + 1) ts) ≡ silent (drop i ts)
-  silent_more e = let y = ap (λ u. is_nothing (tag_saying u)) e in let s = silent_step in grind arith
-
-  other : (t : Tag) → (t ≡ tag.Erased → ⊥) → is_nothing (tag_saying t) ≡ false
-  other tag.Erased n = absurd (n refl)
-  other (tag.Data v) n = refl
-  other (tag.Deletion v) n = refl
-  other (tag.Register b) n = refl
-
-  pub silent_not : (t ≡ tag.Erased → ⊥) → silent (drop i ts) ≡ false
-  silent_not n = let y = other t n in let s = silent_step in grind arith
-
-pub silent_all : (ts : List Tag) (i : ℕ) → length ts ≤ i → silent (drop i ts) ≡ true
+silent_is : (ts : List Tag) → list_all is_blank ts ≡ silent ts
 unfolding all_nothing
-silent_all ts i h = at_drop_all silent ts i h
+silent_is [] = refl
+silent_is (t ∷ ts) = (λ i. sym (silent_at t) i && silent_is ts i)
 
-pub part_silent : (ts : List Tag) (start per : ℕ) → silent (take per (drop start ts)) ≡ all_nothing (take per (drop start (tag_sayings ts)))
-part_silent ts start per = ap all_nothing (sym (take-map tag_saying per (drop start ts)) ∙ ap (take per) (sym (drop-map tag_saying start ts)))
+pub part_silent : (ts : List Tag) (start per : ℕ) → list_all is_blank (take per (drop start ts)) ≡ all_nothing (take per (drop start (tag_sayings ts)))
+part_silent ts start per = silent_is (take per (drop start ts)) ∙ ap all_nothing (sym (take-map tag_saying per (drop start ts)) ∙ ap (take per) (sym (drop-map tag_saying start ts)))
 
 -- the first block that says nothing
 module _ (per : ℕ) (xs : List Saying) (blocks k : ℕ) (lt : k < blocks) where

@@ -4,7 +4,6 @@ mod BirthTurns
 mod BlockTurns
 mod KeyTurns
 mod RecordTurns
-mod NeedTurns
 mod SectorTurns
 pub mod Bare
 pub mod Links

@@ -1,22 +1,23 @@
 // Wholly erased blocks.
 ghost use Rattle.std.specs.Prelude.{◌≡◌, ◌+◌, ◌*◌, ◌≤◌, false, length, take, drop, MatchOption};
+ghost use Rattle.std.specs.List.{list_all};
 ghost use Rattle.readings.specs.Mount.{all_nothing, erased_block};
-ghost use Rattle.mounting.specs.Tagged.{tag_sayings};
+ghost use Rattle.mounting.specs.Tagged.{tag_sayings, is_blank};
 ghost use Rattle.mounting.specs.Blocks.{ErasedAt};
 
 use chip::BlockNumber;
 use layout::Tag;
 
-fn all_erased(tags: &[Tag]) -> bool
-    ensures { result ≡ all_nothing (tag_sayings tags.now) }
+fn is_erased(tag: &Tag) -> bool
+    ensures { result ≡ is_blank tag.now }
 {
-    for tag in tags {
-        match tag {
-            Tag::Erased => {}
-            _ => return false,
-        }
-    }
-    true
+    matches!(tag, Tag::Erased)
+}
+
+fn all_erased(tags: &[Tag]) -> bool
+    ensures { result ≡ list_all is_blank tags.now }
+{
+    tags.iter().all(is_erased)
 }
 
 // Whether the pages from `start` on, `per` of them, are erased.
