@@ -8,7 +8,7 @@ ghost use Rattle.calls.specs.Opening.{Begins, Reopened};
 
 use changing::format_chip;
 use chip::{BlockNumber, Chip, PageNumber};
-use limits::{LABEL_BYTES, Label};
+use limits::Label;
 use mounting::mount_index;
 use noting::fresh_index;
 use refusals::Refusal;
@@ -16,11 +16,7 @@ use tables::{Index, MOST_PAGES};
 
 // Memory of a chip without a page, for a closed store.
 pub fn no_index() -> Index {
-    let label = Label {
-        bytes: [0; LABEL_BYTES],
-        size: 0,
-    };
-    fresh_index(0, PageNumber(0), BlockNumber(0), label)
+    fresh_index(0, PageNumber(0), BlockNumber(0), Label::empty())
 }
 
 // A store fits on the chip.
