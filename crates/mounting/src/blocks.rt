@@ -34,6 +34,7 @@ pub(crate) fn erased_block(tags: &[Tag], per: usize, blocks: usize) -> Option<Bl
     requires few { blocks ≤ 4096 }
     ensures { MatchOption result (erased_block per blocks (tag_sayings tags.now) ≡ false) (λ b. ErasedAt per blocks (tag_sayings tags.now) b.0) }
 {
+    // By number: over `chunks_exact(per)` the library has no lemma which pages a chunk has.
     for block in 0..blocks {
         if is_block_erased(tags, block * per, per) {
             return Some(BlockNumber(block as u32));

@@ -24,7 +24,7 @@ use limits::{Held, LAST_BIRTH, Sector};
 pub use lookups::{page_in_state, present_page};
 use tables::{Index, Kind, Record, VersionKind};
 
-// The clock after one tick.
+// The clock after one tick; its last value stays. (With `min` a greater one would not.)
 fn tick(clock: u32) -> u32
     ensures { result ≡ ticked clock }
 {
