@@ -1,15 +1,14 @@
 -- The keys of versions, and the next key.
-use Rattle.std.proofs.Common.{◌≡◌, ℕ, ◌/◌, ◌%◌, ◌<◌, ◌≤◌, List, [], ◌∷◌, length, get_or, leb, true, false, Some, None, refl, ap, ◌∙◌, ⊎_elim, arith}
-use Rattle.std.specs.List.{ContainsAt as Has, filter_map}
+use Rattle.std.proofs.Common.{◌≡◌, ℕ, List, [], ◌∷◌, get_or, leb, true, false, refl, ap, ⊎_elim, arith}
+use Rattle.std.specs.List.{filter_map}
 use Rattle.std.specs.Option.{option_map}
 use Rattle.std.specs.List.Sorted.{IsNonDecreasing, IsPartitionPoint}
 use Rattle.std.proofs.lemmas.Bool.{cases_lt, leb-true, leb-false}
-use Rattle.std.proofs.lemmas.List.{get_or_default}
 use Rattle.layout.specs.declared.pages.Tag.{Tag}
 use Rattle.layout.specs.declared.pages.Tag.TheVariants as tag
 use Rattle.readings.specs.Reading.{versions}
 use Rattle.mounting.specs.Tagged.{tag_sayings, version_in}
-use Rattle.mounting.specs.Keys.{keys, version_key, key, Above, NextBirth}
+use Rattle.mounting.specs.Keys.{keys, version_key, Above}
 
 pub keys_are : (ts : List Tag) → filter_map (λ t. option_map version_key (version_in t)) ts ≡ keys (tag_sayings ts)
 unfolding versions

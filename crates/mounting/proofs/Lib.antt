@@ -2,6 +2,7 @@ mod Distinct
 mod Filling
 mod BirthTurns
 mod BlockTurns
+mod Chunks
 mod KeyTurns
 mod RecordTurns
 mod SectorTurns

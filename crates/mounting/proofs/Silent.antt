@@ -65,7 +65,7 @@ pub spare_erased : (per blocks : ℕ) (pages : List Page) (ts : List Tag) → Ta
     (b : ℕ) → ErasedAt per blocks (tag_sayings ts) b → (k : ℕ) → k < per → is_erased (get_or pages (b * per + k) []) ≡ true
 spare_erased per blocks pages ts tagged whole b at k h =
     let xs = tag_sayings ts in
-    let fits = block_fits per xs blocks b at.stands (length pages) whole in
+    let fits = block_fits per blocks b at.stands (length pages) whole in
     let l = length-map ts tag_saying in
     let m = many pages ts tagged in
     let in-range : b * per + k < length pages = omega arith in

@@ -39,7 +39,7 @@ fn index_of<C: Chip>(chip: &C, tags: Tags, register: Register) -> Result<Index, 
     if !births_differ(tags) {
         return Err(Refusal::NotAStore);
     }
-    let spare = erased_block(tags.all, per, blocks).ok_or(Refusal::NotAStore)?;
+    let spare = erased_block(tags, per).ok_or(Refusal::NotAStore)?;
     let records = records_of(tags);
     let needed = needed_count(&records[..tags.all.len()], register.held.as_slice());
     if (blocks - 1) * per - 2 < needed {

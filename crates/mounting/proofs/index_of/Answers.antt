@@ -1,4 +1,4 @@
-use Rattle.std.proofs.Common.{◌≡◌, ◌*◌, ◌≤◌, Err, sym, ap, ◌∙◌, rules, arith}
+use Rattle.std.proofs.Common.{◌≡◌, ◌*◌, ◌≤◌, length, Err, sym, ap, ◌∙◌, rules, arith}
 use Rattle.readings.specs.Sayings.{sayings}
 use Rattle.std.specs.Result.{result_ok}
 use Rattle.refusals.specs.declared.types.Refusal.TheVariants as refusal
@@ -19,16 +19,16 @@ returns-then-not-births_differ g c =
 
 pub erased_block-requires : goal.erased_block-requires
 erased_block-requires g c =
-    let chip = c.args.chip.now in
-    record {
-      whole = many (g.C.Chip.pages chip) c.args.tags.all.now c.requires.scanned.tagged ∙ g.C.Chip.shape.whole chip ∙ (λ i. sym c.size-blocks.ensures i * sym c.block_pages-per.ensures i);
-      few = let e = c.size-blocks.ensures in let f = g.C.Chip.shape.few chip in omega arith;
-    }
+    let least : 2 ≤ g.C.Chip.per = g.C.Chip.shape.least in
+    let e = c.block_pages-per.ensures in
+    omega arith
 
 pub returns-in_err-spare-clause-verdict : goal.returns-in_err-spare-clause-verdict
 returns-in_err-spare-clause-verdict g c =
     let chip = c.args.chip.now in
-    let no = rw (c.ok_or.ensures.ok_part ∙ ap result_ok c.in_err-spare.was) at c.erased_block.ensures in
+    let whole : length c.args.tags.all.now ≡ c.size-blocks.result * c.block_pages-per.result =
+    many (g.C.Chip.pages chip) c.args.tags.all.now c.requires.scanned.tagged ∙ g.C.Chip.shape.whole chip ∙ (λ i. sym c.size-blocks.ensures i * sym c.block_pages-per.ensures i) in
+    let no = rw (c.ok_or.ensures.ok_part ∙ ap result_ok c.in_err-spare.was) at (c.erased_block.ensures c.size-blocks.result whole) in
     let e : c.from_residual.result ≡ Err refusal.NotAStore = search rules in
     ap verdict_in e ∙ refuse_block _ _ (g.C.Chip.pages chip) c.args.tags.all.now c.requires.scanned.tagged _ _ c.size-blocks.ensures c.block_pages-per.ensures no
 
@@ -66,10 +66,11 @@ returns g c =
     let recorded = c.records_of-records.ensures.recorded in
     let apart = c.if-not-births_differ.ensures in
     let count = count_is _ _ pages ts tagged _ _ eb ep rs _ _ _ apart recorded c.as_slice.ensures told.held (omega arith) c.needed_count-needed.ensures in
-    let spare = rw (c.ok_or.ensures.ok_part ∙ ap result_ok c.in_ok-spare.was) at c.erased_block.ensures in
+    let all = many pages ts tagged in
+    let whole : length ts ≡ c.size-blocks.result * c.block_pages-per.result = all ∙ g.C.Chip.shape.whole c.args.chip.now ∙ (λ i. sym eb i * sym ep i) in
+    let spare = rw (c.ok_or.ensures.ok_part ∙ ap result_ok c.in_ok-spare.was) at (c.erased_block.ensures c.size-blocks.result whole) in
     let keys = shuffled_keys _ _ pages ts tagged _ _ eb ep recorded.0 recorded.1 in
     let free = spare_is _ _ pages ts tagged _ _ eb ep (g.C.Chip.shape.whole c.args.chip.now) c.in_ok-spare.spare.0 spare in
-    let all = many pages ts tagged in
     record {
       verdict = grant _ _ pages ts tagged _ _ eb ep c.needed_count-needed.result told.begun apart spare.some count c.if-blocks-per.false;
       tells = record {
