@@ -112,7 +112,7 @@ pub fn held<C: Chip>(chip: &C, ix: &Index, buffer: &mut [u32]) -> Result<usize, 
     ensures { Tells (ask_held buffer.old) (C.Chip.blocks chip.now) C.Chip.per (C.Chip.pages chip.now) ix.now (told size_value buffer.new result) }
 {
     check_length(buffer.len(), MOST_HELD)?;
-    let count = ix.held.count;
+    let count = ix.held.len;
     buffer.fill(0);
     buffer[0..count].copy_from_slice(ix.held.as_slice());
     Ok(count)
@@ -123,7 +123,7 @@ pub fn label<C: Chip>(chip: &C, ix: &Index, buffer: &mut [u8]) -> Result<usize, 
     ensures { Tells (ask_label buffer.old) (C.Chip.blocks chip.now) C.Chip.per (C.Chip.pages chip.now) ix.now (told size_value buffer.new result) }
 {
     check_length(buffer.len(), LABEL_BYTES)?;
-    let size = ix.label.size;
+    let size = ix.label.len;
     buffer.fill(0);
     buffer[0..size].copy_from_slice(ix.label.as_slice());
     Ok(size)

@@ -1,5 +1,5 @@
 -- What changes of an open store leave.
-use Rattle.std.specs.Prelude.{◌≡◌, ℕ, suc, ◌+◌, ◌*◌, ◌<◌, ◌≤◌, min, Bool, true, ◌⊎◌, List, [], ◌∷◌, ◌++◌, length, Ok, Err, Result, slice_index_or}
+use Rattle.std.specs.Prelude.{◌≡◌, ℕ, suc, ◌+◌, ◌*◌, ◌<◌, ◌≤◌, min, true, ◌⊎◌, List, [], ◌∷◌, ◌++◌, length, Ok, Err, Result, slice_index_or}
 use Rattle.chip.specs.declared.ChipFault.{ChipFault}
 use Rattle.chip.specs.declared.PageNumber.{PageNumber}
 use Rattle.chip.specs.Pages.{Page, is_erased}
@@ -11,10 +11,12 @@ use Rattle.readings.specs.Reading.{latest, must, reading}
 use Rattle.readings.specs.Changes.{last_clock, frozen, released}
 use Rattle.readings.specs.Mount.{capacity}
 use Rattle.tables.specs.declared.index.Index.{Index}
+use Rattle.tables.specs.declared.types.VersionKind.{VersionKind}
+use Rattle.tables.specs.Records.{kind_of, version_kind}
 use Rattle.moving.specs.Kept.{all_stale}
 use Rattle.keeping.specs.Opened.{Opened}
 use Rattle.noting.specs.Holding.{without}
-use Rattle.noting.specs.Noted.{is_deletion, next_version, next_register}
+use Rattle.noting.specs.Noted.{next_version, next_register}
 
 -- The change is made: the store is open, and reads as `after`.
 pub record Changed (blocks per : ℕ) (after : Reading) (r : Result (Unit {0}) ChipFault) (pages' : List Page) (ix' : Index) : Type 0 where
@@ -63,9 +65,9 @@ module _ (blocks per : ℕ) (pages : List Page) (ix : Index) where
       Changed blocks per (add (reading (sayings pages)) s c) r pages' ix'
 
   -- The same for a page image.
-  abbrev pub AddsPage : ℕ → Bool → Page → Result (Unit {0}) ChipFault → List Page → Index → Type 0
-  AddsPage s deletion image r pages' ix' =
-      (c : Content) → is_deletion c ≡ deletion → NextVersion ix s c image → Adds s c r pages' ix'
+  abbrev pub AddsPage : ℕ → VersionKind → Page → Result (Unit {0}) ChipFault → List Page → Index → Type 0
+  AddsPage s kind image r pages' ix' =
+      (c : Content) → kind_of c ≡ version_kind kind → NextVersion ix s c image → Adds s c r pages' ix'
 
   -- A register more: the next tick is held too, or a number is held no more.
   pub record Registered (held : List ℕ) (r : Result (Unit {0}) ChipFault) (pages' : List Page) (ix' : Index) : Type 0 where

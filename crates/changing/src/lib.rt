@@ -18,7 +18,7 @@ use layout_write::{write_data, write_deletion, write_register};
 use limits::{Birth, Held, LAST_BIRTH, Register, Sector, Version};
 use noting::{note_register, note_version};
 use room::{clean_block, make_room};
-use tables::Index;
+use tables::{Index, VersionKind};
 
 // Above every birth.
 const NO_LIMIT: u32 = 4294967295;
@@ -64,16 +64,16 @@ fn add_version<C: Chip>(
     chip: &mut C,
     ix: &mut Index,
     sector: Sector,
-    deletion: bool,
+    kind: VersionKind,
     image: &[u8; PAGE_BYTES],
 ) -> Result<(), ChipFault>
     ensures kept { C.Chip.kept chip.new ≡ C.Chip.kept chip.old }
     ensures same { C.Chip.blocks chip.new ≡ C.Chip.blocks chip.old }
-    ensures adds { AddsPage (C.Chip.blocks chip.old) C.Chip.per (C.Chip.pages chip.old) ix.old sector.number deletion image.now result (C.Chip.pages chip.new) ix.new }
+    ensures adds { AddsPage (C.Chip.blocks chip.old) C.Chip.per (C.Chip.pages chip.old) ix.old sector.number kind image.now result (C.Chip.pages chip.new) ix.new }
 {
     let page = free_page(chip, ix)?;
     chip.program(page, image)?;
-    note_version(ix, page, sector, deletion);
+    note_version(ix, page, sector, kind);
     Ok(())
 }
 
@@ -98,7 +98,7 @@ pub fn add_data<C: Chip>(
 {
     let mut image = [0u8; PAGE_BYTES];
     data_image(ix, sector, given, &mut image);
-    add_version(chip, ix, sector, false, &image)
+    add_version(chip, ix, sector, VersionKind::Data, &image)
 }
 
 // The image of a sector's next version, a deletion.
@@ -117,7 +117,7 @@ pub fn add_deletion<C: Chip>(chip: &mut C, ix: &mut Index, sector: Sector) -> Re
 {
     let mut image = [0u8; PAGE_BYTES];
     deletion_image(ix, sector, &mut image);
-    add_version(chip, ix, sector, true, &image)
+    add_version(chip, ix, sector, VersionKind::Deletion, &image)
 }
 
 // The image of the next register, with these held numbers. There is none where they don't rise up to

@@ -1,14 +1,13 @@
 -- No number stands twice: by counts, which a shuffle keeps, and by neighbours in a list that rises.
-use Rattle.std.proofs.Common.{◌≡◌, ℕ, ◌+◌, ◌-◌, ◌<◌, ◌≤◌, Bool, true, false, cond, not, ◌&&◌, ◌||◌, eqb, List, [], ◌∷◌, length, get_or, drop, sum_by, sym, refl, ap, ◌∙◌, arith, length-drop}
-use Rattle.std.specs.List.{AllByRecursion}
+use Rattle.std.proofs.Common.{◌≡◌, ℕ, zero, suc, ◌+◌, ◌<◌, ◌≤◌, Bool, true, false, cond, eqb, ltb, List, [], ◌∷◌, length, get_or, sum_by, sym, refl, ap, ◌∙◌, arith}
+use Rattle.std.specs.List.{AllByRecursion, IsAllAdjacentAnswer}
 use Rattle.std.specs.List.Sorted.{IsNonDecreasing, IsPermutation}
 use Rattle.std.proofs.lemmas.Bool.Decides.{nat_tests}
-use Rattle.std.proofs.lemmas.Bool.{eqb-true, eq-eqb}
-use Rattle.std.proofs.lemmas.List.{at_drop_more, get_or-drop}
+use Rattle.std.proofs.lemmas.Bool.{eqb-true, eq-eqb, ltb-true, ltb-false}
 use Rattle.std.proofs.ByRecursion.{All-from_get_or}
 use Rattle.std.proofs.lemmas.List.Sums.{sum_by-cons}
 use Rattle.std.proofs.lemmas.List.Sorted.{sum_by-IsPermutation}
-use Rattle.readings.specs.Versions.{any, has}
+use Rattle.readings.specs.Versions.{has}
 use Rattle.readings.specs.Mount.{distinct}
 
 abbrev one : ℕ → ℕ → ℕ
@@ -76,42 +75,33 @@ below_all : (n : ℕ) (xs : List ℕ) → AllByRecursion (λ y. n < y) xs → ha
 below_all n [] h = refl
 below_all n (x ∷ xs) h = let ih = below_all n xs h.1 in let l = h.0 in grind (arith, nat_tests)
 
-module _ (xs : List ℕ) (r : IsNonDecreasing xs) (i : ℕ) (low : 1 ≤ i) (lt : i < length xs) where
-  here : distinct (drop (i - 1) xs) ≡ (not (has (get_or xs (i - 1) 0) (drop i xs)) && distinct (drop i xs))
-  unfolding distinct
-  here =
-      let e : i - 1 + 1 ≡ i = omega arith in
-      at_drop_more distinct xs (i - 1) 0 (omega arith) ∙ ap (λ k. not (has (get_or xs (i - 1) 0) (drop k xs)) && distinct (drop k xs)) e
-
-  above : get_or xs (i - 1) 0 < get_or xs i 0 → AllByRecursion (λ y. get_or xs (i - 1) 0 < y) (drop i xs)
-  above h = All-from_get_or (λ y. get_or xs (i - 1) 0 < y) (drop i xs) 0
-      (λ k l. let q = r i (i + k) 0 (omega arith) (let z = length-drop i xs in omega arith) in let e = get_or-drop i xs k 0 in omega arith)
-
-  pub pass : (get_or xs (i - 1) 0 ≡ get_or xs i 0 → ⊥) → distinct (drop (i + 1 - 1) xs) ≡ distinct (drop (i - 1) xs)
-  pass n =
-      let q = r (i - 1) i 0 (omega arith) lt in
-      let l : get_or xs (i - 1) 0 < get_or xs i 0 = ⊥_or q n in
-      let z = below_all (get_or xs (i - 1) 0) (drop i xs) (above l) in
-      let e : i + 1 - 1 ≡ i = omega arith in
-      let f = here in
-      let g : distinct (drop (i - 1) xs) ≡ distinct (drop i xs) = grind arith in
-      ap (λ k. distinct (drop k xs)) e ∙ sym g
-    where
-      ⊥_or : {a b : ℕ} → a ≤ b → (a ≡ b → ⊥) → a < b
-      ⊥_or {a} {b} h n = omega arith
-
-  pub hit : get_or xs (i - 1) 0 ≡ get_or xs i 0 → distinct (drop (i - 1) xs) ≡ false
-  hit e =
-      let s : has (get_or xs (i - 1) 0) (drop i xs) ≡ (eqb (get_or xs (i - 1) 0) (get_or xs i 0) || has (get_or xs (i - 1) 0) (drop (i + 1) xs)) = at_drop_more (λ l. has (get_or xs (i - 1) 0) l) xs i 0 lt in
-      let t = eq-eqb (get_or xs (i - 1) 0) (get_or xs i 0) e in
-      let f = here in
-      grind arith
-
-pub distinct_end : (xs : List ℕ) (i : ℕ) → 1 ≤ i → length xs ≤ i → distinct (drop (i - 1) xs) ≡ true
+-- a list that rises strictly
+rises : (xs : List ℕ) → ((i j : ℕ) → i < j → j < length xs → get_or xs i 0 < get_or xs j 0) → distinct xs ≡ true
 unfolding distinct
-distinct_end xs i low h = short (drop (i - 1) xs) (let z = length-drop (i - 1) xs in omega arith)
-  where
-    short : (ys : List ℕ) → length ys ≤ 1 → distinct ys ≡ true
-    short [] l = refl
-    short (y ∷ []) l = refl
-    short (y ∷ z ∷ ys) l = absurd (omega arith)
+rises [] h = refl
+rises (x ∷ xs) h =
+    let ih = rises xs (λ i j l m. h (suc i) (suc j) (omega arith) (omega arith)) in
+    let z = below_all x xs (All-from_get_or (λ y. x < y) xs 0 (λ k l. h 0 (suc k) (omega arith) (omega arith))) in
+    grind arith
+
+stands : (xs : List ℕ) (j n : ℕ) → j < length xs → n ≡ get_or xs j 0 → has n xs ≡ true
+stands [] j n l e = absurd (omega arith)
+stands (x ∷ xs) zero n l e = let t = eq-eqb n x e in grind arith
+stands (x ∷ xs) (suc j) n l e = let t = stands xs j n (omega arith) e in grind arith
+
+twice : (xs : List ℕ) (i j : ℕ) → i < j → j < length xs → get_or xs i 0 ≡ get_or xs j 0 → distinct xs ≡ false
+unfolding distinct
+twice [] i j l m e = absurd (omega arith)
+twice (x ∷ xs) i zero l m e = absurd (omega arith)
+twice (x ∷ xs) zero (suc j) l m e = let t = stands xs j x (omega arith) e in grind arith
+twice (x ∷ xs) (suc i) (suc j) l m e = let t = twice xs i j (omega arith) (omega arith) e in grind arith
+
+pub differ_sorted : (xs : List ℕ) → IsNonDecreasing xs → (r : Bool) → IsAllAdjacentAnswer (λ x y b. b ≡ ltb x y) xs r → r ≡ distinct xs
+differ_sorted xs up true h =
+    sym (rises xs (λ i j l m. let p = ltb-true (get_or xs i 0) (get_or xs (i + 1) 0) (sym (h i 0 (omega arith))) in let q = up (i + 1) j 0 (omega arith) m in omega arith))
+differ_sorted xs up false h =
+    let k = h.0 in
+    let l : k + 1 < length xs = h.1 in
+    let p = ltb-false (get_or xs k 0) (get_or xs (k + 1) 0) (sym (h.2 0)) in
+    let q = up k (k + 1) 0 (omega arith) l in
+    sym (twice xs k (k + 1) (omega arith) l (omega arith))

@@ -2,9 +2,9 @@ mod Distinct
 mod Filling
 mod BirthTurns
 mod BlockTurns
+mod Chunks
 mod KeyTurns
 mod RecordTurns
-mod NeedTurns
 mod SectorTurns
 pub mod Bare
 pub mod Links

@@ -1,46 +1,19 @@
 -- Links by keys are links, and need is a test of births and links.
-use Rattle.std.proofs.Common.{◌≡◌, ℕ, zero, suc, ◌<◌, Bool, true, false, not, ◌&&◌, ◌||◌, eqb, ltb, leb, ◌⊎◌, List, [], ◌∷◌, map, reverse, length, get_or, Some, None, MatchBool, Option, unwrap_or, sym, refl, ap, ◌∙◌, subst, inl, inr, ⊎_elim, arith}
-use mathlib.Core.List.{reverse_aux}
+use Rattle.std.proofs.Common.{◌≡◌, ℕ, zero, suc, ◌<◌, true, false, not, eqb, List, [], ◌∷◌, map, length, get_or, Some, None, MatchBool, Option, unwrap_or, sym, refl, ap, ◌∙◌, subst, inl, inr, arith}
 use Rattle.std.specs.List.{ContainsAt as Has}
 use Rattle.std.specs.List.Sorted.{IsPermutation}
 use Rattle.std.proofs.lemmas.List.Sorted.{IsPermutation-sym}
 use Rattle.std.proofs.ByRecursion.{has_shuffled}
-use Rattle.std.proofs.lemmas.Bool.{leb-true, ltb-true, le-leb, lt-ltb, eq-eqb, ne_eqb, and_parts, and_from, not-true, or_left, or_right, both_ways, cases_lt}
-use Rattle.readings.specs.Versions.{Version, now, upto, any, has, needed}
-use Rattle.readings.specs.Sorted.{In, sort, Apart}
-use Rattle.readings.specs.Meaning.{IsYoungest, Once}
+use Rattle.std.proofs.lemmas.Bool.{eq-eqb, ne_eqb, and_parts, not-true, or_left, or_right, both_ways}
+use Rattle.readings.specs.Versions.{Version, has}
+use Rattle.readings.specs.Sorted.{In, Apart}
+use Rattle.readings.specs.Meaning.{Once}
 use Rattle.readings.specs.Sayings.{Saying, nothing, version, register, bad}
 use Rattle.readings.specs.Reading.{versions}
 use Rattle.readings.specs.Mount.{births, distinct}
 use Rattle.readings.specs.Links.{IsLast, IsLink, Linked}
-use Rattle.readings.proofs.Settle.{has_any, any_has}
-use Rattle.readings.proofs.Meaning.{words_mean}
 use Rattle.mounting.specs.Keys.{key, key_of, NextBirth}
 use Rattle.mounting.specs.Recorded.{LinkBy}
-use Rattle.mounting.specs.Needed.{any_from, needed_by}
-use Rattle.mounting.proofs.Distinct.{same_bool}
-
--- versions and sayings
-pub in_version : (xs : List Saying) (v : Version) → In v (versions xs) → In (version v) xs
-unfolding versions
-in_version [] v i = absurd i
-in_version (nothing ∷ xs) v i = inr (in_version xs v i)
-in_version (version w ∷ xs) v (inl e) = inl (ap version e)
-in_version (version w ∷ xs) v (inr i) = inr (in_version xs v i)
-in_version (register r ∷ xs) v i = inr (in_version xs v i)
-in_version (bad c ∷ xs) v i = inr (in_version xs v i)
-
-pub version_in_lem : (xs : List Saying) (v : Version) → In (version v) xs → In v (versions xs)
-unfolding versions
-version_in_lem [] v i = absurd i
-version_in_lem (nothing ∷ xs) v (inl e) = let z : ◌≡◌ {A = ℕ} 0 1 = cc in absurd (omega arith)
-version_in_lem (nothing ∷ xs) v (inr i) = version_in_lem xs v i
-version_in_lem (version w ∷ xs) v (inl e) = inl (cc)
-version_in_lem (version w ∷ xs) v (inr i) = inr (version_in_lem xs v i)
-version_in_lem (register r ∷ xs) v (inl e) = let z : ◌≡◌ {A = ℕ} 0 1 = cc in absurd (omega arith)
-version_in_lem (register r ∷ xs) v (inr i) = version_in_lem xs v i
-version_in_lem (bad c ∷ xs) v (inl e) = let z : ◌≡◌ {A = ℕ} 0 1 = cc in absurd (omega arith)
-version_in_lem (bad c ∷ xs) v (inr i) = version_in_lem xs v i
 
 -- versions and keys
 has_head : {X : Type 0} (x : X) (xs : List X) → Has (x ∷ xs) x
@@ -108,62 +81,6 @@ linked_last held vs v t e l = subst (λ (n : ℕ). Linked held vs v n) e l
 
 pub linked_link : (held : List ℕ) (vs : List Version) (v : Version) (t : ℕ) → (t ≡ 0 → ⊥) → Linked held vs v t → IsLink held vs v t
 linked_link held vs v t n l = subst (λ b. MatchBool b (IsLast vs v) (IsLink held vs v t)) (ne_eqb t 0 n) l
-
--- need
-module _ (held : List ℕ) (vs : List Version) (v : Version) (apart : Apart vs) (stands : In v vs) where
-  need_last : IsLast vs v → needed held (sort vs) v ≡ true
-  need_last last = (words_mean.needed_means held vs v apart stands).1 (inl (record { stands = stands; of_sector = refl; in_time = tt; none_younger = λ w j e t. last w j e }))
-
-  module _ (t : ℕ) (l : IsLink held vs v t) where
-    to_test : IsYoungest now v.sector vs v ⊎ ((h : ℕ) × (has h held ≡ true) × IsYoungest (upto h) v.sector vs v) → any_from v.birth t held ≡ true
-    to_test (inl y) =
-        let r = l.replaced in
-        let q = y.none_younger r.0 r.1 r.2 tt in
-        let later = l.later in
-        let above = r.3 in
-        absurd (omega arith)
-    to_test (inr y) =
-        let h = y.0 in
-        any_has (λ n. leb v.birth n && ltb n t) held h y.1
-        (and_from (leb v.birth h) (ltb h t) (le-leb v.birth h y.2.in_time)
-        (lt-ltb h t (⊎_elim (λ k. k) (λ k. let s = l.seen h y.1 k in let q = y.2.none_younger s.0 s.1 s.2 s.4 in let z = s.3 in absurd (omega arith)) (cases_lt h t))))
-
-    from_test : any_from v.birth t held ≡ true → needed held (sort vs) v ≡ true
-    from_test a =
-        let r = has_any (λ n. leb v.birth n && ltb n t) held a in
-        let h = r.0 in
-        let p = and_parts (leb v.birth h) (ltb h t) r.2 in
-        let low = leb-true v.birth h p.0 in
-        let high = ltb-true h t p.1 in
-        (words_mean.needed_means held vs v apart stands).1
-        (inr (
-          h,
-          r.1,
-          record {
-            stands = stands;
-            of_sector = refl;
-            in_time = low;
-            none_younger = λ w j e c. ⊎_elim (λ k. let q = l.none_between w j e k in absurd (omega arith)) (λ k. k) (cases_lt v.birth w.birth);
-          },
-        ))
-
-    need_link : needed held (sort vs) v ≡ any_from v.birth t held
-    need_link = same_bool _ _ (λ h. to_test ((words_mean.needed_means held vs v apart stands).0 h)) from_test
-
-  pub need_is_test : (t : ℕ) → Linked held vs v t → needed held (sort vs) v ≡ needed_by held v.birth t
-  need_is_test t l = go (eqb t 0) refl l
-    where
-      go : (b : Bool) → eqb t 0 ≡ b → MatchBool b (IsLast vs v) (IsLink held vs v t) → needed held (sort vs) v ≡ (b || any_from v.birth t held)
-      go true e l = need_last l
-      go false e l = need_link t l
-
--- the order of held numbers does not matter
-any_aux : (p : ℕ → Bool) (l r : List ℕ) → any p (reverse_aux l r) ≡ (any p l || any p r)
-any_aux p [] r = refl
-any_aux p (x ∷ xs) r = let ih = any_aux p xs (x ∷ r) in grind arith
-
-pub any_reverse : (p : ℕ → Bool) (l : List ℕ) → any p (reverse l) ≡ any p l
-any_reverse p l = let h = any_aux p l [] in grind arith
 
 -- births that differ
 birth_stands : (xs : List Saying) (v : Version) → In v (versions xs) → has v.birth (births xs) ≡ true

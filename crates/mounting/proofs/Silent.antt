@@ -15,7 +15,7 @@ use Rattle.mounting.specs.Tagged.{tag_saying, tag_sayings, Tagged}
 use Rattle.mounting.specs.Blocks.{ErasedAt}
 use Rattle.mounting.proofs.Bare.{is_nothing_bare}
 use Rattle.mounting.proofs.BlockTurns.{block_fits}
-use Rattle.mounting.proofs.Told.{many, says_at}
+use Rattle.mounting.proofs.Told.{many, tag_says}
 
 abbrev Speaks : Page → Meaning → Type 0
 Speaks p m = is_nothing (heard m p) ≡ false
@@ -65,11 +65,11 @@ pub spare_erased : (per blocks : ℕ) (pages : List Page) (ts : List Tag) → Ta
     (b : ℕ) → ErasedAt per blocks (tag_sayings ts) b → (k : ℕ) → k < per → is_erased (get_or pages (b * per + k) []) ≡ true
 spare_erased per blocks pages ts tagged whole b at k h =
     let xs = tag_sayings ts in
-    let fits = block_fits per xs blocks b at.stands (length pages) whole in
+    let fits = block_fits per blocks b at.stands (length pages) whole in
     let l = length-map ts tag_saying in
     let m = many pages ts tagged in
     let in-range : b * per + k < length pages = omega arith in
     let in_block : k < length (take per (drop (b * per) xs)) = simp (length-take, length-drop) (omega arith) in
-    let says = get_or-take per (drop (b * per) xs) k nothing h ∙ get_or-drop (b * per) xs k nothing ∙ says_at pages ts tagged (b * per + k) in-range in
+    let says = get_or-take per (drop (b * per) xs) k nothing h ∙ get_or-drop (b * per) xs k nothing ∙ tag_says pages ts tagged (b * per + k) in-range in
     silent_erased (get_or pages (b * per + k) [])
     (sym (is_nothing_bare (said (get_or pages (b * per + k) []))) ∙ ap is_nothing (sym says) ∙ silent_at (take per (drop (b * per) xs)) at.silent k in_block)

@@ -14,11 +14,11 @@ use Rattle.readings.specs.Sayings.{sayings}
 use Rattle.readings.specs.Reading.{latest, reading}
 use Rattle.readings.specs.Mount.{Verdict, plain, is_register, births, distinct, erased_block, capacity, is_store, size_fits, bad_from, mount_verdict}
 use Rattle.tables.specs.declared.types.Record.{Record}
+use Rattle.tables.specs.Records.{needed_count}
 use Rattle.mounting.specs.Tagged.{tag_sayings, Tagged}
 use Rattle.mounting.specs.Keys.{keys}
 use Rattle.mounting.specs.Recorded.{RecordedBy}
 use Rattle.mounting.specs.Blocks.{ErasedAt}
-use Rattle.mounting.specs.Needed.{needed_count}
 use Rattle.mounting.specs.Mounted.{Scanned}
 use Rattle.mounting.proofs.Bare.{tagged_births, tagged_block, tagged_keys}
 use Rattle.mounting.proofs.Told.{many, counted}

@@ -1,6 +1,7 @@
 -- Sector and birth of a version in one number: in a rising list of them, what replaced a version stands next to it.
 use Rattle.std.specs.Prelude.{ℕ, ◌+◌, ◌*◌, ◌<◌, ◌≤◌, List, map, length, Some, None, Option, slice_index}
 use Rattle.std.specs.List.{ContainsAt as Has}
+use Rattle.limits.specs.declared.types.Version as limits
 use Rattle.readings.specs.Versions.{Version}
 use Rattle.readings.specs.Sayings.{Saying}
 use Rattle.readings.specs.Reading.{versions}
@@ -10,6 +11,9 @@ key sector birth = sector * 4294967296 + birth
 
 abbrev pub key_of : Version → ℕ
 key_of v = key v.sector v.birth
+
+abbrev pub version_key : limits.Version → ℕ
+version_key v = key v.sector.number v.birth.number
 
 abbrev pub keys : List Saying → List ℕ
 keys xs = map key_of (versions xs)

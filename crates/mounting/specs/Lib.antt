@@ -3,5 +3,4 @@ pub mod Blocks
 pub mod Keys
 pub mod Recorded
 pub mod Entries
-pub mod Needed
 pub mod Mounted

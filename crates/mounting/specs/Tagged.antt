@@ -1,5 +1,5 @@
 -- The tags of pages, and what these pages say without their contents.
-use Rattle.std.specs.Prelude.{◌≡◌, ℕ, List, [], map, Some, None, Option}
+use Rattle.std.specs.Prelude.{◌≡◌, ℕ, Bool, true, false, List, [], map, Some, None, Option}
 use Rattle.limits.specs.declared.types.Version as limits
 use Rattle.layout.specs.declared.pages.Tag.{Tag}
 use Rattle.layout.specs.declared.pages.Tag.TheVariants as tag
@@ -48,3 +48,10 @@ version_in tag.Erased = None
 version_in (tag.Data v) = Some v
 version_in (tag.Deletion v) = Some v
 version_in (tag.Register b) = None
+
+-- The tag is that of an erased page.
+abbrev pub is_blank : Tag → Bool
+is_blank tag.Erased = true
+is_blank (tag.Data v) = false
+is_blank (tag.Deletion v) = false
+is_blank (tag.Register b) = false

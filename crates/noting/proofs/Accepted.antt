@@ -9,7 +9,8 @@ use Rattle.readings.specs.Sayings.{Register, Saying, nothing, version, register,
 use Rattle.readings.specs.Reading.{birth_of, latest, reading}
 use Rattle.readings.specs.Mount.{capacity, Verdict, plain, bad_from, is_register, is_nothing, with_birth, births, distinct, all_nothing, erased_block, is_store}
 use Rattle.noting.specs.Consistent.{Lone, ConsistentAccepted}
-use Rattle.noting.proofs.Sayings.{said_erased, says_at}
+use Rattle.tables.proofs.Said.{says_at}
+use Rattle.noting.proofs.Sayings.{said_erased}
 
 -- No page is bad.
 good_from : (k : ℕ) (xs : List Saying) (o : Verdict) → ((c : ℕ) → In (bad c) xs → ⊥) → bad_from k xs o ≡ o

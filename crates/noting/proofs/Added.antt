@@ -13,7 +13,8 @@ use Rattle.readings.proofs.PageLaws.{pages_read}
 use Rattle.readings.proofs.Meaning.{words_mean}
 use Rattle.noting.specs.Consistent.{Lone}
 use Rattle.noting.specs.Holding.{without}
-use Rattle.noting.proofs.Sayings.{same_version, same_register, version_says, register_says, not_version, says_at, at_says, in_versions, versions_in, clock_above, clock_below, latest_above, latest_in}
+use Rattle.tables.proofs.Said.{says_at, at_says, in_versions, versions_in}
+use Rattle.noting.proofs.Sayings.{same_version, same_register, version_says, register_says, not_version, clock_above, clock_below, latest_above, latest_in}
 
 pub apart : (xs : List Saying) → Told xs → Apart (versions xs)
 apart xs told v w i j e = same_version v w (told.once (version v) (version w) (in_versions xs v i) (in_versions xs w j) e)
@@ -230,7 +231,3 @@ released_reads xs n held e =
 pub any_append : (p : ℕ → Bool) (xs ys : List ℕ) → any p (xs ++ ys) ≡ (any p xs || any p ys)
 any_append p [] ys = refl
 any_append p (x ∷ xs) ys = let ih = any_append p xs ys in grind arith
-
-pub any_reverse : (p : ℕ → Bool) (xs : List ℕ) → any p (reverse xs) ≡ any p xs
-any_reverse p [] = refl
-any_reverse p (x ∷ xs) = let e = ap (any p) (reverse-append (x ∷ []) xs) in let f = any_append p (reverse xs) (x ∷ []) in let ih = any_reverse p xs in grind arith

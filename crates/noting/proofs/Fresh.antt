@@ -21,7 +21,8 @@ use Rattle.noting.specs.Consistent.{Lone, Consistent}
 use Rattle.noting.specs.Noted.{register_record}
 use Rattle.noting.specs.Fresh.{no_records, no_pages, IsFresh, first_register, Formatted, FreshlyRead}
 use Rattle.noting.proofs.Accepted.{consistent_accepted}
-use Rattle.noting.proofs.Sayings.{said_erased, same_register, register_says, not_version, version_says, says_at, at_says, in_versions, versions_in, clock_above, clock_below, latest_in}
+use Rattle.tables.proofs.Said.{says_at, at_says, in_versions, versions_in}
+use Rattle.noting.proofs.Sayings.{said_erased, same_register, register_says, not_version, version_says, clock_above, clock_below, latest_in}
 
 -- A list in which nothing stands.
 none_in : {A : Type 0} (l : List A) → ((x : A) → In x l → ⊥) → l ≡ []

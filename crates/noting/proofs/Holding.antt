@@ -1,11 +1,12 @@
 -- Lists of held numbers.
-use Rattle.std.proofs.Common.{◌≡◌, ℕ, ◌+◌, ◌<◌, ◌≤◌, Bool, true, false, ◌&&◌, ◌||◌, eqb, ltb, leb, List, [], ◌∷◌, ◌++◌, length, get_or, take, drop, set, sym, refl, ap, ◌∙◌, arith}
-use Rattle.std.proofs.lemmas.List.{at_drop_more, at_drop_all, append_assoc, append-nil, take_more_set, get_or-take, length-take-le}
+use Rattle.std.proofs.Common.{◌≡◌, ℕ, ◌+◌, ◌<◌, ◌≤◌, Bool, true, false, ◌&&◌, ltb, leb, List, [], ◌∷◌, ◌++◌, length, get_or, drop, Some, None, Option, unwrap_or, sym, refl, ap, ◌∙◌, arith}
+use Rattle.std.proofs.lemmas.List.{at_drop_more, at_drop_all, append_assoc, append-nil, length-take-le, length_push}
 use Rattle.std.proofs.lemmas.Bool.{and_parts, ltb-true, leb-true, lt-ltb, le-leb}
+use Rattle.std.specs.Option.{option_map}
 use Rattle.limits.specs.declared.types.Bounded.{Bounded}
 use Rattle.limits.specs.Numbers.{rising}
-use Rattle.limits.specs.Values.{held_of}
-use Rattle.readings.specs.Versions.{put, keep, any, has}
+use Rattle.limits.specs.Values.{held_of, up_to}
+use Rattle.readings.specs.Versions.{put, keep}
 
 -- A number above all goes after them.
 pub rising_push : (low top n : ℕ) (ns : List ℕ) → rising low top ns ≡ true → low < n → top < n → rising low n (ns ++ (n ∷ [])) ≡ true
@@ -33,39 +34,29 @@ rising_keep p low least top later (m ∷ ms) r l h =
     go false x y i j = j
 
 -- One number of a list that is filtered.
-module _ (p : ℕ → Bool) (ns out : List ℕ) (count i : ℕ) (h : i < length ns) where
-  keep_step : keep p (drop i ns) ≡ put (p (get_or ns i 0)) (get_or ns i 0) (keep p (drop (i + 1) ns))
+module _ (p : ℕ → Bool) (ns left : List ℕ) (i n : ℕ) (h : i < length ns) (at : n ≡ get_or ns i 0) where
+  keep_step : keep p (drop i ns) ≡ put (p n) n (keep p (drop (i + 1) ns))
   unfolding keep
-  keep_step = at_drop_more (keep p) ns i 0 h
+  keep_step = rw at (at_drop_more (keep p) ns i 0 h)
 
-  pub keep_yes : p (get_or ns i 0) ≡ true → count < length out → take count out ++ keep p (drop i ns) ≡ keep p ns →
-      take (count + 1) (set out count (get_or ns i 0)) ++ keep p (drop (i + 1) ns) ≡ keep p ns
-  keep_yes t room e =
-      let s : keep p (drop i ns) ≡ get_or ns i 0 ∷ keep p (drop (i + 1) ns) = keep_step ∙ rw t refl in
-      ap (λ l. l ++ keep p (drop (i + 1) ns)) (take_more_set out count (get_or ns i 0) room)
-      ∙ append_assoc (take count out) (get_or ns i 0 ∷ []) (keep p (drop (i + 1) ns))
-      ∙ ap (λ l. take count out ++ l) (sym s) ∙ e
+  pub keep_yes : p n ≡ true → left ++ keep p (drop i ns) ≡ keep p ns → (left ++ (n ∷ [])) ++ keep p (drop (i + 1) ns) ≡ keep p ns
+  keep_yes t e = let s = keep_step in rw (append_assoc left (n ∷ []) (keep p (drop (i + 1) ns))) (ap (λ l. left ++ l) (sym (s ∙ rw t refl)) ∙ e)
 
-  pub keep_no : p (get_or ns i 0) ≡ false → take count out ++ keep p (drop i ns) ≡ keep p ns → take count out ++ keep p (drop (i + 1) ns) ≡ keep p ns
-  keep_no t e =
-      let s : keep p (drop i ns) ≡ keep p (drop (i + 1) ns) = keep_step ∙ rw t refl in
-      ap (λ l. take count out ++ l) (sym s) ∙ e
+  pub keep_no : p n ≡ false → left ++ keep p (drop i ns) ≡ keep p ns → left ++ keep p (drop (i + 1) ns) ≡ keep p ns
+  keep_no t e = let s = keep_step in ap (λ l. left ++ l) (sym (s ∙ rw t refl)) ∙ e
 
-pub has_step : (n : ℕ) (ns : List ℕ) (i : ℕ) → i < length ns → has n (drop i ns) ≡ (eqb n (get_or ns i 0) || has n (drop (i + 1) ns))
-has_step n ns i h = at_drop_more (has n) ns i 0 h
-
-pub keep_end : (p : ℕ → Bool) (ns out : List ℕ) (count i : ℕ) → length ns ≤ i → take count out ++ keep p (drop i ns) ≡ keep p ns → take count out ≡ keep p ns
+pub keep_end : (p : ℕ → Bool) (ns left : List ℕ) (i : ℕ) → length ns ≤ i → left ++ keep p (drop i ns) ≡ keep p ns → left ≡ keep p ns
 unfolding keep
-keep_end p ns out count i h e =
-    let z : keep p (drop i ns) ≡ [] = at_drop_all (keep p) ns i h in
-    sym (append-nil (take count out)) ∙ ap (λ l. take count out ++ l) (sym z) ∙ e
+keep_end p ns left i h e = sym (append-nil left) ∙ ap (λ l. left ++ l) (sym (at_drop_all (keep p) ns i h)) ∙ e
 
-pub has_end : (n : ℕ) (ns : List ℕ) (i : ℕ) → length ns ≤ i → has n (drop i ns) ≡ false
-has_end n ns i h = at_drop_all (has n) ns i h
+-- One number more, where there is room.
+pub with_more : (left : Bounded ℕ 8) (n : ℕ) (r : Option (Bounded ℕ 8)) → length (held_of left) < 8 → option_map held_of r ≡ up_to 8 (held_of left ++ (n ∷ [])) →
+    held_of (unwrap_or r left) ≡ held_of left ++ (n ∷ [])
+with_more left n r h e = go r (e ∙ rw (le-leb (length (held_of left ++ (n ∷ []))) 8 (omega (arith, length_push (held_of left) n))) refl)
+  where
+    go : (r : Option (Bounded ℕ 8)) → option_map held_of r ≡ Some (held_of left ++ (n ∷ [])) → held_of (unwrap_or r left) ≡ held_of left ++ (n ∷ [])
+    go None e = cc
+    go (Some b) e = cc
 
-module _ (held : Bounded ℕ 8) where
-  pub held_length : length (held_of held) ≡ held.len
-  held_length = length-take-le held.len held.items (let a = held.few in let b = held.room in omega arith)
-
-  pub held_at : (i : ℕ) → i < held.len → get_or (held_of held) i 0 ≡ get_or held.items i 0
-  held_at i h = get_or-take held.len held.items i 0 h
+pub held_length : (held : Bounded ℕ 8) → length (held_of held) ≡ held.len
+held_length held = length-take-le held.len held.items (let a = held.few in let b = held.room in omega arith)

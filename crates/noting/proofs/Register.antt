@@ -6,7 +6,7 @@ use Rattle.std.proofs.lemmas.Bool.Decides.{when_true, when_false}
 use Rattle.chip.specs.Pages.{Page}
 use Rattle.limits.specs.declared.types.Bounded.{Bounded}
 use Rattle.limits.specs.Values.{held_of, label_of}
-use Rattle.readings.specs.Versions.{Version, any, has}
+use Rattle.readings.specs.Versions.{Version, has}
 use Rattle.readings.specs.Sorted.{In}
 use Rattle.readings.specs.Sayings.{Register, Saying, nothing, version, register, said, sayings}
 use Rattle.readings.specs.Reading.{versions, clock_of, latest, held_by}
@@ -16,11 +16,12 @@ use Rattle.tables.specs.declared.index.Index.{Index}
 use Rattle.tables.specs.declared.types.Record.{Record}
 use Rattle.tables.specs.Records.{unused, Agrees, Rest, rest_of}
 use Rattle.tables.specs.Tells.{HasLast, Mapped, Tells}
+use Rattle.tables.proofs.Needs.{any_reverse}
 use Rattle.noting.specs.Consistent.{Consistent, Free}
 use Rattle.noting.specs.Holding.{without}
 use Rattle.noting.specs.Noted.{Memory, memory_of, ticked, register_record, register_rest, register_noted, next_register, Holdable, RegisterAdded}
 use Rattle.noting.proofs.Sayings.{said_erased, not_version, version_says}
-use Rattle.noting.proofs.Added.{spare_stays, born, says_new, says_old, other_page, next_clock, lone_next, register_told, register_latest, register_in, in_register, register_reads, frozen_reads, released_reads, any_append, any_reverse}
+use Rattle.noting.proofs.Added.{spare_stays, born, says_new, says_old, other_page, next_clock, lone_next, register_told, register_latest, register_in, in_register, register_reads, frozen_reads, released_reads, any_append}
 use Rattle.noting.proofs.Linked.{last_like, linked_like, linked_held}
 use Rattle.noting.proofs.Version.{ticks}
 

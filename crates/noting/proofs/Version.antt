@@ -1,11 +1,11 @@
 -- What memory tells, once a version was noted.
-use Rattle.std.proofs.Common.{◌≡◌, ℕ, suc, ◌<◌, ◌≤◌, Bool, ltb, List, [], ◌∷◌, length, get_or, set, sym, refl, ap, ◌∙◌, inl, inr, arith, length-set}
+use Rattle.std.proofs.Common.{◌≡◌, ℕ, suc, ◌<◌, ◌≤◌, ltb, List, [], ◌∷◌, length, get_or, set, sym, refl, ap, ◌∙◌, inl, inr, arith, length-set}
 use Rattle.std.proofs.lemmas.List.{get_or-set_same, get_or-set_other}
 use Rattle.std.proofs.lemmas.Bool.{cases_eq, cases_Bool, lt-ltb, ltb-true}
 use Rattle.std.proofs.lemmas.Bool.Decides.{when_true, when_false}
 use Rattle.chip.specs.Pages.{Page}
 use Rattle.limits.specs.Values.{held_of, label_of}
-use Rattle.readings.specs.Versions.{Content, bytes, deleted, Version}
+use Rattle.readings.specs.Versions.{Content, Version}
 use Rattle.readings.specs.Sorted.{In}
 use Rattle.readings.specs.Sayings.{Register, Saying, nothing, version, register, bad, said, sayings}
 use Rattle.readings.specs.Reading.{birth_of, versions, clock_of, latest, held_by}
@@ -14,23 +14,21 @@ use Rattle.readings.specs.Mount.{is_nothing}
 use Rattle.readings.specs.Changes.{last_clock}
 use Rattle.tables.specs.declared.index.Index.{Index}
 use Rattle.tables.specs.declared.types.Record.{Record}
-use Rattle.tables.specs.Records.{unused, kind_of, Agrees, Rest, rest_of}
+use Rattle.tables.specs.declared.types.VersionKind.{VersionKind}
+use Rattle.tables.specs.Records.{unused, kind_of, version_kind, Agrees, Rest, rest_of}
 use Rattle.tables.specs.Tells.{HasLast, Mapped, Tells}
 use Rattle.noting.specs.Consistent.{Lone, Consistent, Free}
-use Rattle.noting.specs.Noted.{Memory, memory_of, ticked, version_kind, is_deletion, relinked, version_record, version_records, version_rest, version_noted, next_version, VersionAdded}
-use Rattle.noting.proofs.Sayings.{said_erased, same_version, version_says, at_says, versions_in}
+use Rattle.noting.specs.Noted.{Memory, memory_of, ticked, relinked, version_record, version_records, version_rest, version_noted, next_version, VersionAdded}
+use Rattle.tables.proofs.Said.{at_says, versions_in}
+use Rattle.noting.proofs.Sayings.{said_erased, same_version, version_says}
 use Rattle.noting.proofs.Added.{spare_stays, born, says_new, says_old, other_page, next_clock, lone_next, version_told, version_latest, version_in_lem, in_version, version_reads, add_reads}
 use Rattle.noting.proofs.Linked.{cases_link, last_linked, link_linked, new_last, last_stays, last_replaced, link_stays, last_like, linked_like}
-
-pub kind_is : (c : Content) (d : Bool) → is_deletion c ≡ d → version_kind d ≡ kind_of c
-kind_is (bytes bs) d e = ap version_kind (sym e)
-kind_is deleted d e = ap version_kind (sym e)
 
 pub ticks : (n m : ℕ) → n ≡ m → m < last_clock → ticked n ≡ suc m
 ticks n m e h = ap ticked e ∙ (rw (lt-ltb m last_clock h) (omega arith))
 
 -- A record with another link agrees with what the record agreed with.
-relinked_agrees : (y : Saying) (r : Record) (t : ℕ) → Agrees y r → Agrees y (relinked r t)
+pub relinked_agrees : (y : Saying) (r : Record) (t : ℕ) → Agrees y r → Agrees y (relinked r t)
 relinked_agrees nothing r t a = a
 relinked_agrees (version v) r t a = a
 relinked_agrees (register g) r t a = a
@@ -109,10 +107,10 @@ module _ (blocks per : ℕ) (pages : List Page) (ix : Index) (con : Consistent b
       | inr l ↦ link_linked held (v ∷ vs) w (link j) (link_stays held vs v old_births w (link j) l)
     ]
 
-module _ (blocks per : ℕ) (pages : List Page) (ix ix' : Index) (k : ℕ) (x : Page) (s : ℕ) (c : Content) (deletion : Bool)
+module _ (blocks per : ℕ) (pages : List Page) (ix ix' : Index) (k : ℕ) (x : Page) (s : ℕ) (c : Content) (of : VersionKind)
     (con : Consistent blocks per pages ix) (free : Free per pages ix k) (small : s < 2048)
-    (is : said x ≡ version (next_version pages s c)) (kind : is_deletion c ≡ deletion)
-    (noted : memory_of ix' ≡ version_noted ix k s deletion) where
+    (is : said x ≡ version (next_version pages s c)) (kind : kind_of c ≡ version_kind of)
+    (noted : memory_of ix' ≡ version_noted ix k s of) where
   abbrev v : Version
   v = next_version pages s c
 
@@ -137,30 +135,30 @@ module _ (blocks per : ℕ) (pages : List Page) (ix ix' : Index) (k : ℕ) (x : 
   tick : ticked ix.clock ≡ v.birth
   tick = ticks ix.clock (clock_of xs) tells.clock free.in_time
 
-  memory : memory_of ix' ≡ record { records = version_records ix k s deletion; rest = version_rest ix k s deletion }
+  memory : memory_of ix' ≡ record { records = version_records ix k s of; rest = version_rest ix k s of }
   memory = let a = free.inside in let b = tells.counted in noted ∙ rw (lt-ltb k ix.pages (omega arith)) refl
 
-  records_are : ix'.records ≡ set (set ix.records m (relinked (get_or ix.records m unused) v.birth)) k (version_record v.birth s deletion)
+  records_are : ix'.records ≡ set (set ix.records m (relinked (get_or ix.records m unused) v.birth)) k (version_record v.birth s of)
   records_are = ap (λ (z : Memory). z.records) memory ∙ rw tick refl
 
-  rest_is : rest_of ix' ≡ version_rest ix k s deletion
+  rest_is : rest_of ix' ≡ version_rest ix k s of
   rest_is = ap (λ (z : Memory). z.rest) memory
 
   long : k < length ix.records
   long = let a = free.inside in let b = tells.counted in let d = ix.few in let e = ix.long in omega arith
 
-  record_new : get_or ix'.records k unused ≡ version_record v.birth s deletion
-  record_new = rw records_are (get_or-set_same (set ix.records m (relinked (get_or ix.records m unused) v.birth)) k (version_record v.birth s deletion) unused (rw length-set long))
+  record_new : get_or ix'.records k unused ≡ version_record v.birth s of
+  record_new = rw records_are (get_or-set_same (set ix.records m (relinked (get_or ix.records m unused) v.birth)) k (version_record v.birth s of) unused (rw length-set long))
 
   record_former : m < length pages → (m ≡ k → ⊥) → get_or ix'.records m unused ≡ relinked (get_or ix.records m unused) v.birth
   record_former inside ne =
       let b = tells.counted in let d = ix.few in let e = ix.long in
-      rw records_are (get_or-set_other (set ix.records m (relinked (get_or ix.records m unused) v.birth)) k m (version_record v.birth s deletion) unused ne
+      rw records_are (get_or-set_other (set ix.records m (relinked (get_or ix.records m unused) v.birth)) k m (version_record v.birth s of) unused ne
       ∙ get_or-set_same ix.records m (relinked (get_or ix.records m unused) v.birth) unused (omega arith))
 
   record_other : (j : ℕ) → (j ≡ k → ⊥) → (j ≡ m → ⊥) → get_or ix'.records j unused ≡ get_or ix.records j unused
   record_other j ne nm =
-      rw records_are (get_or-set_other (set ix.records m (relinked (get_or ix.records m unused) v.birth)) k j (version_record v.birth s deletion) unused ne
+      rw records_are (get_or-set_other (set ix.records m (relinked (get_or ix.records m unused) v.birth)) k j (version_record v.birth s of) unused ne
       ∙ get_or-set_other ix.records m j (relinked (get_or ix.records m unused) v.birth) unused nm)
 
   next_old : (j : ℕ) → (j ≡ k → ⊥) → said (get_or pages' j []) ≡ said (get_or pages j [])
@@ -171,7 +169,7 @@ module _ (blocks per : ℕ) (pages : List Page) (ix ix' : Index) (k : ℕ) (x : 
 
   agree : (j : ℕ) → j < length pages → Agrees (said (get_or pages' j [])) (get_or ix'.records j unused)
   agree j h = elim (cases_eq j k) [
-    | inl e ↦ rw (e, next_new, record_new) (kind_is c deletion kind, refl, refl)
+    | inl e ↦ rw (e, next_new, record_new) (sym kind, refl, refl)
     | inr ne ↦ elim (cases_eq j m) [
       | inl e ↦
           let ne' : m ≡ k → ⊥ = λ z. ne (e ∙ z) in

@@ -20,8 +20,9 @@ use Rattle.tables.specs.Records.{unused, kind_of, Agrees}
 use Rattle.tables.specs.Tells.{HasLast}
 use Rattle.noting.specs.Consistent.{Consistent}
 use Rattle.noting.specs.Lookups.{page_number, Shows, present_page, is_version, is_of, Found, found_below, page_in_state}
-use Rattle.noting.proofs.Sayings.{at_says, says_at, in_versions, versions_in}
-use Rattle.noting.proofs.Added.{apart, any_reverse}
+use Rattle.tables.proofs.Said.{at_says, says_at, in_versions, versions_in}
+use Rattle.tables.proofs.Needs.{any_reverse}
+use Rattle.noting.proofs.Added.{apart}
 
 -- The reading has the youngest versions within each bound that counts.
 pub reading_youngest : (xs : List Saying) (b : Bound) (s : ℕ) → Counts (held_by xs) b → youngest b s (reading xs).versions ≡ youngest b s (sort (versions xs))
@@ -173,6 +174,11 @@ module _ (blocks per : ℕ) (pages : List Page) (ix : Index) (con : Consistent b
   shows_in_state =
       let f = found_below ix.records n s ix.pages in
       shows_found f.page f.birth (best ix.records n s ix.pages)
+
+-- What the search has so far.
+abbrev pub found_of : Option (PageNumber × ℕ) → Found
+found_of None = record { page = None; birth = 0 }
+found_of (Some (page, birth)) = record { page = Some page; birth = birth }
 
 -- One turn of the search.
 module _ (records : List Record) (n s i : ℕ) (r : Record) (is : r ≡ get_or records i unused) (f : Found) (so_far : f ≡ found_below records n s i) where

@@ -1,5 +1,5 @@
 -- Where the versions of a sector stand.
-use Rattle.std.specs.Prelude.{◌≡◌, ℕ, zero, suc, ◌<◌, Bool, true, false, cond, ◌&&◌, List, [], length, get_or, Some, None, Option, ◌==◌, nat_le, nat_lt, slice_index, slice_index_or}
+use Rattle.std.specs.Prelude.{◌≡◌, ℕ, zero, suc, ◌<◌, Bool, cond, ◌&&◌, List, [], length, get_or, Some, None, Option, ◌==◌, nat_le, nat_lt, slice_index, slice_index_or}
 use Rattle.std.proofs.Math.Option as opt
 use Rattle.chip.specs.declared.PageNumber.{PageNumber}
 use Rattle.chip.specs.Pages.{Page}
@@ -7,8 +7,8 @@ use Rattle.readings.specs.Versions.{Version}
 use Rattle.readings.specs.Sayings.{version, said}
 use Rattle.tables.specs.declared.index.Index.{Index}
 use Rattle.tables.specs.declared.types.Kind.{Kind}
-use Rattle.tables.specs.declared.types.Kind.TheVariants as kind
 use Rattle.tables.specs.declared.types.Record.{Record}
+use Rattle.tables.specs.Records as records
 use Rattle.tables.specs.Records.{unused}
 
 abbrev pub page_number : ℕ → PageNumber
@@ -23,11 +23,9 @@ Shows pages (Some p) o = (v : Version) × (o ≡ opt.some v) × (p.0 < length pa
 abbrev pub present_page : Index → ℕ → Option PageNumber
 present_page ix s = cond (nat_lt (slice_index ix.map s) ix.pages) (Some (page_number (slice_index ix.map s))) None
 
+-- (As the tables have it.)
 abbrev pub is_version : Kind → Bool
-is_version kind.Erased = false
-is_version kind.Data = true
-is_version kind.Deletion = true
-is_version kind.Register = false
+is_version = records.is_version
 
 -- A version of sector s, born at or before n.
 abbrev pub is_of : ℕ → ℕ → Record → Bool

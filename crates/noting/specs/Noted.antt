@@ -1,17 +1,17 @@
 -- What memory has once a page was programmed.
-use Rattle.std.specs.Prelude.{◌≡◌, ℕ, suc, ◌+◌, Bool, true, false, cond, ◌⊎◌, List, [], ◌∷◌, ◌++◌, reverse, get_or, nat_lt, slice_index_or, slice_set}
+use Rattle.std.specs.Prelude.{◌≡◌, ℕ, suc, ◌+◌, true, cond, ◌⊎◌, List, [], ◌∷◌, ◌++◌, reverse, get_or, nat_lt, slice_index_or, slice_set}
 use Rattle.chip.specs.Pages.{Page}
 use Rattle.limits.specs.declared.types.Bounded.{Bounded}
-use Rattle.readings.specs.Versions.{Content, bytes, deleted, Version, has, add}
+use Rattle.readings.specs.Versions.{Content, Version, has, add}
 use Rattle.readings.specs.Sorted.{reading_of}
 use Rattle.readings.specs.Sayings.{Register, sayings}
 use Rattle.readings.specs.Reading.{versions, clock_of, latest, reading}
 use Rattle.readings.specs.Changes.{last_clock, frozen, released}
 use Rattle.tables.specs.declared.index.Index.{Index}
-use Rattle.tables.specs.declared.types.Kind.{Kind}
 use Rattle.tables.specs.declared.types.Kind.TheVariants as kind
 use Rattle.tables.specs.declared.types.Record.{Record}
-use Rattle.tables.specs.Records.{unused, Rest, rest_of}
+use Rattle.tables.specs.declared.types.VersionKind.{VersionKind}
+use Rattle.tables.specs.Records.{unused, version_kind, Rest, rest_of}
 use Rattle.noting.specs.Consistent.{Consistent}
 use Rattle.noting.specs.Holding.{without}
 
@@ -27,27 +27,19 @@ memory_of ix = record { records = ix.records; rest = rest_of ix }
 abbrev pub ticked : ℕ → ℕ
 ticked n = cond (nat_lt n last_clock) (n + 1) n
 
-abbrev pub version_kind : Bool → Kind
-version_kind true = kind.Deletion
-version_kind false = kind.Data
-
-abbrev pub is_deletion : Content → Bool
-is_deletion (bytes bs) = false
-is_deletion deleted = true
-
 -- The record, once its version was replaced at t.
 abbrev pub relinked : Record → ℕ → Record
 relinked r t = record { birth = r.birth; link = t; sector = r.sector; kind = r.kind }
 
-abbrev pub version_record : ℕ → ℕ → Bool → Record
-version_record birth s deletion = record { birth = birth; link = 0; sector = s; kind = version_kind deletion }
+abbrev pub version_record : ℕ → ℕ → VersionKind → Record
+version_record birth s k = record { birth = birth; link = 0; sector = s; kind = version_kind k }
 
-module _ (ix : Index) (k s : ℕ) (deletion : Bool) where
+module _ (ix : Index) (k s : ℕ) (of : VersionKind) where
   -- The record of the former version of the sector gets its link.
   abbrev pub version_records : List Record
   version_records =
       let former = get_or ix.map s 0 in
-      slice_set (slice_set ix.records former (relinked (slice_index_or ix.records former unused) (ticked ix.clock))) k (version_record (ticked ix.clock) s deletion)
+      slice_set (slice_set ix.records former (relinked (slice_index_or ix.records former unused) (ticked ix.clock))) k (version_record (ticked ix.clock) s of)
 
   abbrev pub version_rest : Rest
   version_rest = record {

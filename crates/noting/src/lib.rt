@@ -11,8 +11,9 @@ ghost use Rattle.chip.specs.Pages.{Page};
 ghost use Rattle.limits.specs.Values.{held_of};
 ghost use Rattle.readings.specs.Versions.{Content};
 ghost use Rattle.readings.specs.Sayings.{version, register, said};
+ghost use Rattle.tables.specs.Records.{kind_of, version_kind};
 ghost use Rattle.noting.specs.Consistent.{Consistent, Free, ConsistentAccepted};
-ghost use Rattle.noting.specs.Noted.{memory_of, ticked, version_kind, is_deletion, version_noted, next_version, VersionAdded, register_record, register_noted, next_register, Holdable, RegisterAdded};
+ghost use Rattle.noting.specs.Noted.{memory_of, ticked, version_noted, next_version, VersionAdded, register_record, register_noted, next_register, Holdable, RegisterAdded};
 ghost use Rattle.noting.specs.Written.{WrittenSays};
 
 use chip::PageNumber;
@@ -21,33 +22,27 @@ pub use format::fresh_index;
 pub use held::{hold_below, hold_number, is_held, release_number};
 use limits::{Held, LAST_BIRTH, Sector};
 pub use lookups::{page_in_state, present_page};
-use tables::{Index, Kind, Record};
+use tables::{Index, Kind, Record, VersionKind};
 
-// The clock after one tick.
+// The clock after one tick; its last value stays. (With `min` a greater one would not.)
 fn tick(clock: u32) -> u32
     ensures { result ≡ ticked clock }
 {
     if clock < LAST_BIRTH { clock + 1 } else { clock }
 }
 
-fn version_kind(deletion: bool) -> Kind
-    ensures { result ≡ version_kind deletion }
-{
-    if deletion { Kind::Deletion } else { Kind::Data }
-}
-
 // Notes a version of a sector that was programmed, at the next tick, into an erased page.
-pub fn note_version(ix: &mut Index, page: PageNumber, sector: Sector, deletion: bool)
-    ensures memory { memory_of ix.new ≡ version_noted ix.old page.0 sector.number deletion }
-    ensures added { (blocks per : ℕ) (pages : List Page) (x : Page) (c : Content) → Consistent blocks per pages ix.old → Free per pages ix.old page.0 → said x ≡ version (next_version pages sector.number c) → is_deletion c ≡ deletion → VersionAdded blocks per pages page.0 x sector.number c ix.new }
+pub fn note_version(ix: &mut Index, page: PageNumber, sector: Sector, kind: VersionKind)
+    ensures memory { memory_of ix.new ≡ version_noted ix.old page.0 sector.number kind }
+    ensures added { (blocks per : ℕ) (pages : List Page) (x : Page) (c : Content) → Consistent blocks per pages ix.old → Free per pages ix.old page.0 → said x ≡ version (next_version pages sector.number c) → kind_of c ≡ version_kind kind → VersionAdded blocks per pages page.0 x sector.number c ix.new }
 {
     let at = page.0 as usize;
     if at >= ix.pages {
         return;
     }
     let birth = tick(ix.clock);
-    let number = sector.number as usize;
-    let former = ix.map[number] as usize;
+    let number = usize::from(sector.number);
+    let former = usize::from(ix.map[number]);
     let mut replaced = ix.at(former);
     replaced.link = birth;
     ix.put(former, replaced);
@@ -57,7 +52,7 @@ pub fn note_version(ix: &mut Index, page: PageNumber, sector: Sector, deletion: 
             birth,
             link: 0,
             sector: sector.number,
-            kind: version_kind(deletion),
+            kind: kind.into(),
         },
     );
     ix.map[number] = at as u16;

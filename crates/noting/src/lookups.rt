@@ -7,39 +7,26 @@ ghost use Rattle.readings.specs.Sayings.{sayings};
 ghost use Rattle.readings.specs.Reading.{reading};
 ghost use Rattle.readings.specs.Changes.{present, in_state};
 ghost use Rattle.noting.specs.Consistent.{Consistent};
-ghost use Rattle.noting.specs.Lookups.{Shows, present_page, is_version, is_of, page_in_state};
+ghost use Rattle.noting.specs.Lookups.{Shows, present_page, is_of, page_in_state};
 
 use chip::PageNumber;
 use limits::Sector;
-use tables::{Index, Kind, Record};
-
-pub(crate) fn is_version(kind: Kind) -> bool
-    ensures { result ≡ is_version kind }
-{
-    match kind {
-        Kind::Data | Kind::Deletion => true,
-        Kind::Erased | Kind::Register => false,
-    }
-}
+use tables::{Index, Record};
 
 // The page of a sector's youngest version.
 pub fn present_page(ix: &Index, sector: Sector) -> Option<PageNumber>
     ensures page { result ≡ present_page ix.now sector.number }
     ensures shows { (blocks per : ℕ) (pages : List Page) → Consistent blocks per pages ix.now → Shows pages result (present (reading (sayings pages)) sector.number) }
 {
-    let page = ix.map[sector.number as usize];
-    if (page as usize) < ix.pages {
-        Some(PageNumber(page as u32))
-    } else {
-        None
-    }
+    let page = ix.map[usize::from(sector.number)];
+    (usize::from(page) < ix.pages).then_some(PageNumber(u32::from(page)))
 }
 
 // Whether a page is a version of the sector that was born at or before `number`.
 fn is_version_of(saved: Record, number: u32, sector: Sector) -> bool
     ensures { result ≡ is_of number sector.number saved }
 {
-    is_version(saved.kind) && saved.sector == sector.number && saved.birth <= number
+    saved.kind.is_version() && saved.sector == sector.number && saved.birth <= number
 }
 
 // The page of a sector's youngest version that was born at or before a held number.
@@ -47,14 +34,12 @@ pub fn page_in_state(ix: &Index, number: u32, sector: Sector) -> Option<PageNumb
     ensures page { result ≡ page_in_state ix.now number sector.number }
     ensures shows { (blocks per : ℕ) (pages : List Page) → Consistent blocks per pages ix.now → has number (held_of ix.now.held) ≡ true → Shows pages result (in_state (reading (sayings pages)) number sector.number) }
 {
-    let mut found = None;
-    let mut birth = 0;
-    for i in 0..ix.pages {
-        let saved = ix.at(i);
-        if is_version_of(saved, number, sector) && birth < saved.birth {
-            found = Some(PageNumber(i as u32));
-            birth = saved.birth;
+    let mut found: Option<(PageNumber, u32)> = None;
+    for (i, saved) in ix.records[..ix.pages].iter().enumerate() {
+        let birth = found.map_or(0, |(_, birth)| birth);
+        if is_version_of(*saved, number, sector) && birth < saved.birth {
+            found = Some((PageNumber(i as u32), saved.birth));
         }
     }
-    found
+    found.map(|(page, _)| page)
 }

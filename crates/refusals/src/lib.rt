@@ -3,9 +3,11 @@
 
 ghost use Rattle.std.specs.Prelude.{◌≡◌};
 ghost use Rattle.refusals.specs.Numbers.{verdict_of};
+ghost use Rattle.refusals.specs.declared.types.Refusal.TheVariants as refusal;
 
 pub mod types;
 
+use scan::BadPage;
 pub use types::Refusal;
 
 impl Refusal {
@@ -25,6 +27,17 @@ impl Refusal {
             Refusal::TooManyHeld => 10,
             Refusal::OutOfTicks => 11,
             Refusal::Full => 12,
+        }
+    }
+}
+
+impl From<BadPage> for Refusal {
+    ghost from_gives = { λ b r. r ≡ refusal.BadPage b.page b.cause };
+
+    fn from(bad: BadPage) -> Refusal {
+        Refusal::BadPage {
+            page: bad.page,
+            cause: bad.cause,
         }
     }
 }

@@ -1,7 +1,7 @@
 use chip::PageNumber;
 use layout::Cause;
 
-#[derive(Clone, Copy, Debug, PartialEq)]
+#[derive(Clone, Copy, Debug, PartialEq, Eq)]
 pub enum Refusal {
     // The store is open.
     StoreOpen,

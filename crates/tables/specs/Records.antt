@@ -1,5 +1,5 @@
 -- The record of a page.
-use Rattle.std.specs.Prelude.{◌≡◌, ℕ, Bool, true, false, ◌&&◌, ◌||◌, List, ◌==◌, nat_le, nat_lt}
+use Rattle.std.specs.Prelude.{◌≡◌, ℕ, Bool, true, false, ◌&&◌, ◌||◌, List, count_by, ◌==◌, nat_le, nat_lt}
 use Rattle.readings.specs.Versions.{Content, bytes, deleted, any}
 use Rattle.readings.specs.Sayings.{Saying, nothing, version, register, bad}
 use Rattle.chip.specs.declared.BlockNumber.{BlockNumber}
@@ -8,6 +8,8 @@ use Rattle.tables.specs.declared.index.Index.{Index}
 use Rattle.tables.specs.declared.types.Kind.{Kind}
 use Rattle.tables.specs.declared.types.Kind.TheVariants as kind
 use Rattle.tables.specs.declared.types.Record.{Record}
+use Rattle.tables.specs.declared.types.VersionKind.{VersionKind}
+use Rattle.tables.specs.declared.types.VersionKind.TheVariants as version_kinds
 
 abbrev pub unused : Record
 unused = record { birth = 0; link = 0; sector = 0; kind = kind.Erased }
@@ -22,6 +24,10 @@ is_version kind.Data = true
 is_version kind.Deletion = true
 is_version kind.Register = false
 
+abbrev pub version_kind : VersionKind → Kind
+version_kind version_kinds.Data = kind.Data
+version_kind version_kinds.Deletion = kind.Deletion
+
 -- A number is held that is at or after a birth and before a link.
 abbrev pub held_between : List ℕ → ℕ → ℕ → Bool
 held_between held birth link = any (λ h. nat_le birth h && nat_lt h link) held
@@ -32,6 +38,9 @@ needed_by held birth link = link == 0 || held_between held birth link
 
 abbrev pub is_needed : List ℕ → Record → Bool
 is_needed held r = is_version r.kind && needed_by held r.birth r.link
+
+abbrev pub needed_count : List ℕ → List Record → ℕ
+needed_count held rs = count_by (is_needed held) rs
 
 -- The record says what the page says; there is none for a bad page.
 abbrev pub Agrees : Saying → Record → Type 0

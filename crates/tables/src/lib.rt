@@ -2,19 +2,30 @@
 #![tactic(auto)]
 
 ghost use Rattle.std.specs.Prelude.{◌≡◌, ◌≤◌, length, slice_index_or, slice_set};
-ghost use Rattle.tables.specs.Records.{is_version, held_between, is_needed, unused, rest_of};
+ghost use Rattle.tables.specs.Records.{is_version, version_kind, held_between, is_needed, needed_count, unused, rest_of};
 
 pub mod index;
 pub mod types;
 
 pub use index::{Index, MOST_PAGES, NO_PAGE};
-pub use types::{Kind, Record};
+pub use types::{Kind, Record, VersionKind};
 
 impl Kind {
     pub fn is_version(self) -> bool
         ensures { result ≡ is_version self }
     {
         matches!(self, Kind::Data | Kind::Deletion)
+    }
+}
+
+impl From<VersionKind> for Kind {
+    ghost from_gives = { λ v k. k ≡ version_kind v };
+
+    fn from(kind: VersionKind) -> Kind {
+        match kind {
+            VersionKind::Data => Kind::Data,
+            VersionKind::Deletion => Kind::Deletion,
+        }
     }
 }
 
@@ -34,6 +45,13 @@ impl Record {
         self.kind.is_version()
             && (self.link == 0 || is_held_between(held, self.birth, u64::from(self.link)))
     }
+}
+
+// How many of the records are needed.
+pub fn needed_count(records: &[Record], held: &[u32]) -> usize
+    ensures { result ≡ needed_count held.now records.now }
+{
+    records.iter().filter(|r| r.is_needed(held)).count()
 }
 
 // The record of an erased page.

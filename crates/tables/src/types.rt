@@ -7,6 +7,13 @@ pub enum Kind {
     Register,
 }
 
+// Which kind a version is of.
+#[derive(Clone, Copy, Debug, PartialEq, Eq)]
+pub enum VersionKind {
+    Data,
+    Deletion,
+}
+
 // What the store remembers of a page. The link of a version is the birth of what replaced it, and 0
 // where nothing did.
 #[derive(Clone, Copy, Debug, PartialEq, Eq)]

@@ -8,10 +8,10 @@ use Rattle.mounting.proofs.records.record_of.Goals as goal
 
 pub returns-in-Data : goal.returns-in-Data
 returns-in-Data c =
-    subst (λ (t : Tag). Recorded c.args.keys.now (tag_saying t) c.version_record.result) (sym c.in-Data.is)
-    (recorded_version c.args.keys.now (bytes []) c.in-Data.version c.successor.result _ c.version_record.ensures c.successor.ensures)
+    subst (λ (t : Tag). Recorded c.args.keys.numbers.now (tag_saying t) c.version_record.result) (sym c.in-Data.is)
+    (recorded_version c.args.keys.numbers.now (bytes []) c.in-Data.version c.successor.result _ c.version_record.ensures c.successor.ensures)
 
 pub returns-in-Deletion : goal.returns-in-Deletion
 returns-in-Deletion c =
-    subst (λ (t : Tag). Recorded c.args.keys.now (tag_saying t) c.version_record-in-Deletion.result) (sym c.in-Deletion.is)
-    (recorded_version c.args.keys.now deleted c.in-Deletion.version c.successor-in-Deletion.result _ c.version_record-in-Deletion.ensures c.successor-in-Deletion.ensures)
+    subst (λ (t : Tag). Recorded c.args.keys.numbers.now (tag_saying t) c.version_record-in-Deletion.result) (sym c.in-Deletion.is)
+    (recorded_version c.args.keys.numbers.now deleted c.in-Deletion.version c.successor-in-Deletion.result _ c.version_record-in-Deletion.ensures c.successor-in-Deletion.ensures)

@@ -5,7 +5,8 @@ use Rattle.tables.specs.declared.index.Index.{Index}
 use Rattle.tables.specs.declared.types.Record.{Record}
 use Rattle.tables.specs.Records.{unused}
 use Rattle.noting.specs.Lookups.{present_page}
-use Rattle.noting.specs.Counting.{held_between, needed_count, needed_after}
+use Rattle.tables.specs.Records.{held_between}
+use Rattle.noting.specs.Counting.{needed_count, needed_after}
 use Rattle.noting.proofs.Counted.{after_reads}
 use Rattle.noting.proofs.counts.needed_after.Goals as goal
 
@@ -13,9 +14,9 @@ module _ (ix : Index) (s n : ℕ) (counted : n ≡ needed_count ix) where
   none : present_page ix s ≡ None → n + 1 ≡ needed_after ix s
   none e = rw (e, counted) refl
 
-  replaced : (p : PageNumber) (held : List ℕ) (r : Record) (b : Bool) → present_page ix s ≡ Some p → held ≡ held_of ix.held → r ≡ get_or ix.records p.0 unused →
-      b ≡ held_between held r.birth (ix.clock + 1) → n + cond b 1 0 ≡ needed_after ix s
-  replaced p held r b e f g h = rw (e, counted, h, f, g, add-one ix.clock) refl
+  replaced : (p : PageNumber) (held : List ℕ) (r : Record) (clock : ℕ) (b : Bool) → present_page ix s ≡ Some p → held ≡ held_of ix.held → r ≡ get_or ix.records p.0 unused →
+      clock ≡ ix.clock → b ≡ held_between held r.birth (clock + 1) → n + cond b 1 0 ≡ needed_after ix s
+  replaced p held r clock b e f g t h = rw (e, counted, h, f, g, t, add-one ix.clock) refl
 
 pub returns-in_default : goal.returns-in_default
 returns-in_default c =
@@ -30,8 +31,8 @@ returns-then-is_held_between c =
     let ix = c.args.ix.now in
     let s = c.args.sector.number in
     let last = c.args.sector.last in
-    let e = replaced ix s c.needed_count-count.result c.needed_count-count.ensures.count c.in-Some.page c.as_slice.result.now c.at-replaced.result true
-    (sym c.present_page.ensures.page ∙ c.in-Some.is) c.as_slice.ensures c.at-replaced.ensures c.if-is_held_between.ensures in
+    let e = replaced ix s c.needed_count-count.result c.needed_count-count.ensures.count c.in-Some.page c.as_slice.result.now c.at-replaced.result c.from-next.result true
+    (sym c.present_page.ensures.page ∙ c.in-Some.is) c.as_slice.ensures c.at-replaced.ensures c.from-next.ensures c.if-is_held_between.ensures in
     record { count = e; reads = λ blocks per pages content con. e ∙ after_reads blocks per pages ix con s (omega arith) content }
 
 pub returns-else-is_held_between : goal.returns-else-is_held_between
@@ -40,6 +41,6 @@ returns-else-is_held_between c =
     let s = c.args.sector.number in
     let last = c.args.sector.last in
     let n = c.needed_count-count.result in
-    let e = sym (add-zero n) ∙ replaced ix s n c.needed_count-count.ensures.count c.in-Some.page c.as_slice.result.now c.at-replaced.result false
-    (sym c.present_page.ensures.page ∙ c.in-Some.is) c.as_slice.ensures c.at-replaced.ensures c.if-is_held_between.ensures in
+    let e = sym (add-zero n) ∙ replaced ix s n c.needed_count-count.ensures.count c.in-Some.page c.as_slice.result.now c.at-replaced.result c.from-next.result false
+    (sym c.present_page.ensures.page ∙ c.in-Some.is) c.as_slice.ensures c.at-replaced.ensures c.from-next.ensures c.if-is_held_between.ensures in
     record { count = e; reads = λ blocks per pages content con. e ∙ after_reads blocks per pages ix con s (omega arith) content }

@@ -1,9 +1,6 @@
-use Rattle.std.proofs.Common.{◌≡◌, ◌≤◌, ◌++◌, length, take, drop}
-use Rattle.limits.specs.Values.{held_of}
-use Rattle.noting.specs.Holding.{without}
+use Rattle.std.proofs.Common.{not, eqb}
+use Rattle.noting.specs.contracts.held.fn.release_number.hold_those as closure
 use Rattle.noting.proofs.held.release_number.Given as goal
 
-abbrev pub invariant-loop-i : goal.invariant-loop-i
-invariant-loop-i l =
-    (length l.numbers ≡ 8) × (l.count ≤ l.i)
-    × (take l.count l.numbers ++ without l.number (drop l.i (held_of l.held)) ≡ without l.number (held_of l.held))
+abbrev pub ghost-hold_those : goal.ghost-hold_those
+ghost-hold_those a = λ m. not (eqb m (closure.captures a.passes).number)
