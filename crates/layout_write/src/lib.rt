@@ -70,7 +70,7 @@ pub fn write_deletion(version: Version, page: &mut [u8; PAGE_BYTES])
 
 // The held numbers, four bytes each.
 fn held_bytes(given: &Held) -> [u8; 32]
-    ensures { take (4 * given.now.count) result ≡ flat_map le32 (held_of given.now) }
+    ensures { take (4 * given.now.len) result ≡ flat_map le32 (held_of given.now) }
 {
     let numbers = given.as_slice();
     let mut out = [0; 32];
@@ -140,7 +140,7 @@ pub fn write_register(register: &Register, page: &mut [u8; PAGE_BYTES])
     ensures reads { meaning page.new ≡ layout.Register register.now.birth.number (held_of register.now.held) (label_of register.now.label) }
 {
     let held = held_bytes(&register.held);
-    let size = NUMBER_BYTES * register.held.count;
+    let size = NUMBER_BYTES * register.held.len;
     put_both(
         &mut page[0..DATA_BYTES],
         &held[0..size],

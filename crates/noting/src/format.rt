@@ -6,7 +6,7 @@ ghost use Rattle.noting.specs.Fresh.{no_records, no_pages, IsFresh, Formatted, F
 
 use crate::register_record;
 use chip::{BlockNumber, PageNumber};
-use limits::{Held, Label, MOST_HELD};
+use limits::{Held, Label};
 use tables::{Index, MOST_PAGES, NO_PAGE, Record, unused_record};
 
 fn no_records() -> [Record; MOST_PAGES]
@@ -32,10 +32,7 @@ pub fn fresh_index(pages: usize, page: PageNumber, spare: BlockNumber, label: La
         map: no_pages(),
         clock: 1,
         newest: 1,
-        held: Held {
-            numbers: [0; MOST_HELD],
-            count: 0,
-        },
+        held: Held::empty(),
         label,
         spare,
     };

@@ -13,15 +13,15 @@ pub fn hold_number(held: &Held, number: u32) -> Option<Held>
     ensures held { option_map held_of result ≡ up_to 8 (held_of held.now ++ (number ∷ [])) }
     ensures rising { (top : ℕ) → rising 0 top (held_of held.now) ≡ true → top < number → rising 0 number (held_of held.now ++ (number ∷ [])) ≡ true }
 {
-    let count = held.count;
+    let count = held.len;
     if count >= MOST_HELD {
         return None;
     }
-    let mut numbers = held.numbers;
+    let mut numbers = held.items;
     numbers[count] = number;
     Some(Held {
-        numbers,
-        count: count + 1,
+        items: numbers,
+        len: count + 1,
     })
 }
 
@@ -32,14 +32,14 @@ pub fn release_number(held: &Held, number: u32) -> Held
 {
     let mut numbers = [0; MOST_HELD];
     let mut count = 0;
-    for i in 0..held.count {
-        let n = held.numbers[i];
+    for i in 0..held.len {
+        let n = held.items[i];
         if n != number {
             numbers[count] = n;
             count += 1;
         }
     }
-    Held { numbers, count }
+    Held { items: numbers, len: count }
 }
 
 // The held numbers below a bound. (A bound can be one more than any number.)
@@ -48,22 +48,22 @@ pub fn hold_below(held: &Held, bound: u64) -> Held
 {
     let mut numbers = [0; MOST_HELD];
     let mut count = 0;
-    for i in 0..held.count {
-        let candidate = held.numbers[i];
+    for i in 0..held.len {
+        let candidate = held.items[i];
         if (candidate as u64) < bound {
             numbers[count] = candidate;
             count += 1;
         }
     }
-    Held { numbers, count }
+    Held { items: numbers, len: count }
 }
 
 // Whether a number is held.
 pub fn is_held(held: &Held, number: u32) -> bool
     ensures { result ≡ has number (held_of held.now) }
 {
-    for i in 0..held.count {
-        if number == held.numbers[i] {
+    for i in 0..held.len {
+        if number == held.items[i] {
             return true;
         }
     }

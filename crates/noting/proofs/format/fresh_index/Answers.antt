@@ -15,7 +15,7 @@ returns c =
       map = ap (λ (r : Rest). r.map) rest ∙ c.no_pages.ensures;
       clock = ap (λ (r : Rest). r.clock) rest;
       newest = ap (λ (r : Rest). r.newest) rest;
-      held = ap (λ (r : Rest). held_of r.held) rest;
+      held = ap (λ (r : Rest). held_of r.held) rest ∙ c.empty.ensures;
       label = ap (λ (r : Rest). r.label) rest;
       spare = ap (λ (r : Rest). r.spare) rest;
     } in
