@@ -55,9 +55,9 @@ some_page blocks per n two least e =
     let f = e ∙ ap (λ b. b * per) d ∙ add-mul 2 (blocks - 2) per in
     omega arith
 
-pub first_says : (r : limits.Register) (label : Bounded ℕ 32) (image : Page) → r.birth.number ≡ 1 → r.held.len ≡ 0 → r.label ≡ label →
+pub first_says : (r : limits.Register) (label : Bounded ℕ 32) (image : Page) → r.birth.number ≡ 1 → held_of r.held ≡ [] → r.label ≡ label →
     image ≡ register_page r.birth.number (held_of r.held) (label_of r.label) → said image ≡ register (first_register (label_of label))
 first_says r label image b h l e =
     let short = length-take-le label.len label.items (omega (arith, label.room, label.few)) in
-    ap said (e ∙ (λ i. register_page (b i) (take (h i) r.held.items) (label_of (l i))))
+    ap said (e ∙ (λ i. register_page (b i) (h i) (label_of (l i))))
     ∙ written_says.register_page_means 1 [] (label_of label) (omega arith) (omega arith) (omega arith) refl (omega (arith, short, label.few))

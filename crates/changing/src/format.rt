@@ -1,12 +1,12 @@
 // Formatting a chip.
-ghost use Rattle.std.specs.Prelude.{◌≡◌, ℕ, ◌*◌, ◌≤◌};
-ghost use Rattle.limits.specs.Values.{label_of};
+ghost use Rattle.std.specs.Prelude.{◌≡◌, ℕ, ◌*◌, ◌≤◌, []};
+ghost use Rattle.limits.specs.Values.{held_of, label_of};
 ghost use Rattle.noting.specs.Fresh.{Formatted};
 ghost use Rattle.changing.specs.Format.{Blank, AllErased, Begins, Fresh, Formats};
 
 use chip::{BlockNumber, Chip, ChipFault, PAGE_BYTES, PageNumber};
 use layout_write::write_register;
-use limits::{Birth, Held, Label, MOST_HELD, Register};
+use limits::{Birth, Held, Label, Register};
 use noting::fresh_index;
 use tables::Index;
 
@@ -25,15 +25,12 @@ fn erase_all<C: Chip>(chip: &mut C) -> Result<(), ChipFault>
 // The register of a fresh store.
 fn first_register(label: Label) -> Register
     ensures birth { result.birth.number ≡ 1 }
-    ensures held { result.held.count ≡ 0 }
+    ensures held { held_of result.held ≡ [] }
     ensures label { result.label ≡ label }
 {
     Register {
         birth: Birth { number: 1 },
-        held: Held {
-            numbers: [0; MOST_HELD],
-            count: 0,
-        },
+        held: Held::empty(),
         label,
     }
 }

@@ -7,7 +7,7 @@ mod format;
 ghost use Rattle.std.specs.Prelude.{◌≡◌, ◌+◌, min};
 ghost use Rattle.limits.specs.Values.{held_of};
 ghost use Rattle.readings.specs.Versions.{bytes, deleted};
-ghost use Rattle.keeping.specs.Opened.{Opened, no_limit};
+ghost use Rattle.keeping.specs.Opened.{Opened};
 ghost use Rattle.changing.specs.Changed.{Sweeps, Readies, NextVersion, Adds, AddsPage, RegisterImage, NextRegister, Registers, RegistersPage};
 
 pub use back::go_back;
@@ -23,22 +23,13 @@ use tables::Index;
 // Above every birth.
 const NO_LIMIT: u32 = 4294967295;
 
-// Cleans the block with the most stale pages; versions born after `limit` are stale too.
-fn sweep<C: Chip>(chip: &mut C, ix: &mut Index, limit: u32) -> Result<usize, ChipFault>
-    ensures kept { C.Chip.kept chip.new ≡ C.Chip.kept chip.old }
-    ensures same { C.Chip.blocks chip.new ≡ C.Chip.blocks chip.old }
-    ensures cleans { limit ≡ no_limit → Opened (C.Chip.blocks chip.old) C.Chip.per (C.Chip.pages chip.old) ix.old → Sweeps (C.Chip.blocks chip.old) C.Chip.per (C.Chip.pages chip.old) result (C.Chip.pages chip.new) ix.new }
-{
-    clean_block(chip, ix, limit)
-}
-
 // Cleans the block with the most stale pages, and answers how many it had.
 pub fn clean<C: Chip>(chip: &mut C, ix: &mut Index) -> Result<usize, ChipFault>
     ensures kept { C.Chip.kept chip.new ≡ C.Chip.kept chip.old }
     ensures same { C.Chip.blocks chip.new ≡ C.Chip.blocks chip.old }
     ensures cleans { Opened (C.Chip.blocks chip.old) C.Chip.per (C.Chip.pages chip.old) ix.old → Sweeps (C.Chip.blocks chip.old) C.Chip.per (C.Chip.pages chip.old) result (C.Chip.pages chip.new) ix.new }
 {
-    sweep(chip, ix, NO_LIMIT)
+    clean_block(chip, ix, NO_LIMIT)
 }
 
 // An erased page for the next version or register.
@@ -126,9 +117,7 @@ fn register_image(ix: &Index, held: Held, image: &mut [u8; PAGE_BYTES]) -> Resul
     ensures says { RegisterImage ix.now (held_of held) image.new result }
     ensures next { NextRegister ix.now (held_of held) image.new result }
 {
-    let Some(register) = Register::new(next_birth(ix), held, ix.label) else {
-        return Err(ChipFault::NotErased);
-    };
+    let register = Register::new(next_birth(ix), held, ix.label).ok_or(ChipFault::NotErased)?;
     write_register(&register, image);
     Ok(())
 }
