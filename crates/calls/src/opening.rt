@@ -8,7 +8,7 @@ ghost use Rattle.calls.specs.Opening.{Begins, Reopened};
 
 use changing::format_chip;
 use chip::{BlockNumber, Chip, PageNumber};
-use limits::{LABEL_BYTES, Label};
+use limits::Label;
 use mounting::mount_index;
 use noting::fresh_index;
 use refusals::Refusal;
@@ -16,11 +16,7 @@ use tables::{Index, MOST_PAGES};
 
 // Memory of a chip without a page, for a closed store.
 pub fn no_index() -> Index {
-    let label = Label {
-        bytes: [0; LABEL_BYTES],
-        size: 0,
-    };
-    fresh_index(0, PageNumber(0), BlockNumber(0), label)
+    fresh_index(0, PageNumber(0), BlockNumber(0), Label::empty())
 }
 
 // A store fits on the chip.
@@ -38,10 +34,7 @@ fn check_size<C: Chip>(chip: &C) -> Result<(), Refusal>
 fn check_label(text: &[u8]) -> Result<Label, Refusal>
     ensures { MatchResult result (λ l. (label_of l ≡ text.now) × (nat_lt 32 (length text.now) ≡ false)) (λ f. (f ≡ LabelLength) × (nat_lt 32 (length text.now) ≡ true)) }
 {
-    match Label::new(text) {
-        Some(label) => Ok(label),
-        None => Err(Refusal::LabelLength),
-    }
+    Label::new(text).ok_or(Refusal::LabelLength)
 }
 
 // Erases the chip and makes an empty store with this label on it; answers the tables of the store.
@@ -52,10 +45,7 @@ pub fn format<C: Chip>(chip: &mut C, label: &[u8]) -> Result<Index, Refusal>
 {
     check_size(chip)?;
     let label = check_label(label)?;
-    match format_chip(chip, label) {
-        Ok(index) => Ok(index),
-        Err(_) => Err(Refusal::NotAStore),
-    }
+    Ok(format_chip(chip, label)?)
 }
 
 // The tables of the store on the chip, or why there is none.

@@ -3,9 +3,11 @@
 
 ghost use Rattle.std.specs.Prelude.{◌≡◌};
 ghost use Rattle.refusals.specs.Numbers.{verdict_of};
+ghost use Rattle.refusals.specs.declared.types.Refusal.TheVariants.{NotAStore};
 
 pub mod types;
 
+use chip::ChipFault;
 pub use types::Refusal;
 
 impl Refusal {
@@ -26,5 +28,14 @@ impl Refusal {
             Refusal::OutOfTicks => 11,
             Refusal::Full => 12,
         }
+    }
+}
+
+// A chip that refuses what a store asks of it holds no store. (That of an open store refuses nothing.)
+impl From<ChipFault> for Refusal {
+    ghost from_gives = { λ _ r. r ≡ NotAStore };
+
+    fn from(_: ChipFault) -> Refusal {
+        Self::NotAStore
     }
 }
