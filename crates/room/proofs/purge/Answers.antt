@@ -35,8 +35,8 @@ none_later per ix limit b r e t i l = elim (cases_Bool (page_later ix limit (b *
       (ap (page_later ix limit) (get_or-range_with_len (b * per) per i 0 l) ∙ f)))
 ]
 
-pub returns-in_err-relocate : goal.returns-in_err-relocate
-returns-in_err-relocate g c =
+pub returns-in_err-relocate-clause-purged : goal.returns-in_err-relocate-clause-purged
+returns-in_err-relocate-clause-purged g c =
     let m = g.C.Chip in
     let inv = c.loop-b.invariant in
     let e = c.relocate.ensures in
@@ -44,20 +44,14 @@ returns-in_err-relocate g c =
     let ix = c.loop-b.ix in
     let b = c.loop-b.b in
     let limit = c.args.limit in
-    let size = c.size-blocks.ensures in
     let here : Has m.per ix limit b = some_later m.per ix limit b c.has_later.result c.has_later.ensures c.if-has_later.true in
-    record {
-      kept = e.kept ∙ inv.0;
-      same = e.same ∙ inv.1;
-      lasting = e.lasting ∙ inv.2;
-      purged = λ link last_birth sound last.
-          let turn = inv.3 link last_birth sound last in
-          let now-sound : Sound (m.blocks chip) m.per (m.pages chip) ix link last_birth = subst (λ n. Sound n m.per (m.pages chip) ix link last_birth) (sym inv.1) turn.0 in
-          let first : b < m.blocks chip = let t = c.loop-b-test.true in let q = inv.1 in omega arith in
-          let done = e.done link last_birth now-sound (last_stay_same c.args.ix.now ix link limit inv.2 last_birth last) first
-          (not_spare (m.blocks chip) m.per (m.pages chip) ix link last_birth limit now-sound b first here.0 here.1 here.2) in
-          absurd (not_both c.relocate.result c.in_err-relocate.field-0.0 c.in_err-relocate.was done.ok);
-    }
+    λ link last_birth sound last.
+      let turn = inv.3 link last_birth sound last in
+      let now-sound : Sound (m.blocks chip) m.per (m.pages chip) ix link last_birth = subst (λ n. Sound n m.per (m.pages chip) ix link last_birth) (sym inv.1) turn.0 in
+      let first : b < m.blocks chip = let t = c.loop-b-test.true in let q = inv.1 in omega arith in
+      let done = e.done link last_birth now-sound (last_stay_same c.args.ix.now ix link limit inv.2 last_birth last) first
+      (not_spare (m.blocks chip) m.per (m.pages chip) ix link last_birth limit now-sound b first here.0 here.1 here.2) in
+      absurd (not_both c.relocate.result c.in_err-relocate.field-0.0 c.in_err-relocate.was done.ok)
 
 pub loop-b-preserved : goal.loop-b-preserved
 loop-b-preserved g c =
@@ -108,25 +102,19 @@ loop-b-preserved g c =
           )
     ]
 
-pub returns : goal.returns
-returns g c =
+pub returns-clause-purged : goal.returns-clause-purged
+returns-clause-purged g c =
     let m = g.C.Chip in
     let inv = c.loop-b.invariant in
     let chip = c.loop-b.chip in
-    let size = c.size-blocks.ensures in
     let end : c.loop-b.b ≡ m.blocks c.args.chip.now = let t = c.loop-b-test.false in let k = inv.4 in omega arith in
-    record {
-      kept = inv.0;
-      same = inv.1;
-      lasting = inv.2;
-      purged = λ link last_birth sound last.
-          let turn = inv.3 link last_birth sound last in
-          let all : c.loop-b.b * m.per ≡ length (m.pages chip) = ap (λ b. b * m.per) end ∙ sym turn.0.whole in
-          record {
-            ok = refl;
-            sound = turn.0;
-            kept = turn.1;
-            none_later = λ k h. turn.2 k (omega arith);
-            still = λ none. let s = turn.3 none in (ap m.pages s.0, s.1);
-          };
-    }
+    λ link last_birth sound last.
+      let turn = inv.3 link last_birth sound last in
+      let all : c.loop-b.b * m.per ≡ length (m.pages chip) = ap (λ b. b * m.per) end ∙ sym turn.0.whole in
+      record {
+        ok = refl;
+        sound = turn.0;
+        kept = turn.1;
+        none_later = λ k h. turn.2 k (omega arith);
+        still = λ none. let s = turn.3 none in (ap m.pages s.0, s.1);
+      }
