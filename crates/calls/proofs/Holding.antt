@@ -1,5 +1,5 @@
 -- Held numbers of an open store.
-use Rattle.std.proofs.Common.{◌≡◌, ℕ, suc, ltb, leb, List, [], ◌∷◌, sym, refl, ◌∙◌, ⊎_elim, arith}
+use Rattle.std.proofs.Common.{◌≡◌, ℕ, suc, ltb, leb, List, [], ◌∷◌, sym, refl, ap, ◌∙◌, ⊎_elim, arith}
 use Rattle.std.proofs.lemmas.Bool.{lt-ltb, le-ltb, le-leb, lt-leb, cases_lt}
 use Rattle.readings.specs.Versions.{keep}
 

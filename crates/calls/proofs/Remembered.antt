@@ -56,9 +56,6 @@ born_last (bad cause) l = omega arith
 below_last : (n : ℕ) → n ≤ last_clock → (n ≡ last_clock → ⊥) → n < last_clock
 below_last n h k = omega arith
 
-pub label_size : (label : Bounded ℕ 32) → length (label_of label) ≡ label.len
-label_size label = length-take-le label.len label.items (let a = label.few in let b = label.room in omega arith)
-
 module _ (blocks per : ℕ) (pages : List Page) (ix : Index) (o : Opened blocks per pages ix) where
   abbrev r : Reading
   r = reading (sayings pages)

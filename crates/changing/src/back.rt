@@ -8,7 +8,7 @@ ghost use Rattle.moving.specs.Sound.{lasting};
 ghost use Rattle.changing.specs.Back.{map_entry, entered, Rewound, Cuts, WasCut, unlinked, WentBack, GoesBack};
 
 use crate::register_image;
-use chip::{Chip, ChipFault, PAGE_BYTES, PageNumber};
+use chip::{Chip, ChipFault, PageNumber};
 use limits::Held;
 use noting::note_register;
 use room::{make_room, purge};
@@ -104,8 +104,7 @@ fn settle<C: Chip>(
     ensures same { C.Chip.blocks chip.new ≡ C.Chip.blocks chip.old }
     ensures back { (blocks per : ℕ) (pages : List Page) (old : Index) → WasCut blocks per pages old number held page.0 (C.Chip.pages chip.old) ix.old → WentBack blocks per pages old number (held_of held) result (C.Chip.pages chip.new) ix.new }
 {
-    let mut image = [0u8; PAGE_BYTES];
-    register_image(ix, held, &mut image)?;
+    let image = register_image(ix, held)?;
     chip.program(page, &image)?;
     note_register(ix, page, held);
     unlink_all(ix, number);

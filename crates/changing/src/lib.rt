@@ -113,13 +113,14 @@ pub fn add_deletion<C: Chip>(chip: &mut C, ix: &mut Index, sector: Sector) -> Re
 
 // The image of the next register, with these held numbers. There is none where they don't rise up to
 // the register's birth.
-fn register_image(ix: &Index, held: Held, image: &mut [u8; PAGE_BYTES]) -> Result<(), ChipFault>
-    ensures says { RegisterImage ix.now (held_of held) image.new result }
-    ensures next { NextRegister ix.now (held_of held) image.new result }
+fn register_image(ix: &Index, held: Held) -> Result<[u8; PAGE_BYTES], ChipFault>
+    ensures says { RegisterImage ix.now (held_of held) result }
+    ensures next { NextRegister ix.now (held_of held) result }
 {
     let register = Register::new(next_birth(ix), held, ix.label).ok_or(ChipFault::NotErased)?;
-    write_register(&register, image);
-    Ok(())
+    let mut image = [0u8; PAGE_BYTES];
+    write_register(&register, &mut image);
+    Ok(image)
 }
 
 // Programs the image of a register with these held numbers, and notes it.
@@ -146,7 +147,6 @@ pub fn add_register<C: Chip>(chip: &mut C, ix: &mut Index, held: Held) -> Result
     ensures same { C.Chip.blocks chip.new ≡ C.Chip.blocks chip.old }
     ensures registers { Registers (C.Chip.blocks chip.old) C.Chip.per (C.Chip.pages chip.old) ix.old (held_of held) result (C.Chip.pages chip.new) ix.new }
 {
-    let mut image = [0u8; PAGE_BYTES];
-    register_image(ix, held, &mut image)?;
+    let image = register_image(ix, held)?;
     add_register_page(chip, ix, held, &image)
 }

@@ -12,9 +12,9 @@ use Rattle.changing.proofs.Adding.{next_tick}
 use Rattle.changing.proofs.Registering.{frozen_rises, released_rises, not_made, register_says, register_next}
 use Rattle.changing.proofs.register_image.Goals as goal
 
-refused : (ix : Index) (held : List ℕ) (image : Page) (r : Result (Unit {0}) ChipFault) → IsErr r → ((fault : ChipFault) → NextRegister ix held image (Err fault)) → NextRegister ix held image r
-refused ix held image (Ok u) e f = cc
-refused ix held image (Err fault) e f = f fault
+refused : (ix : Index) (held : List ℕ) (r : Result Page ChipFault) → IsErr r → ((fault : ChipFault) → NextRegister ix held (Err fault)) → NextRegister ix held r
+refused ix held (Ok image) e f = cc
+refused ix held (Err fault) e f = f fault
 
 pub returns-in_err-register-clause-next : goal.returns-in_err-register-clause-next
 returns-in_err-register-clause-next c =
@@ -23,7 +23,7 @@ returns-in_err-register-clause-next c =
     let b = c.next_birth.result.number in
     let is = c.next_birth.ensures in
     let none = ap (option_map register_values) (sym c.in_err-register.ensures.ok_part) ∙ c.new.ensures in
-    refused ix held _ c.from_residual.result c.from_residual.ensures.0 (λ fault blocks per pages pages' ix' can.
+    refused ix held c.from_residual.result c.from_residual.ensures.0 (λ fault blocks per pages pages' ix' can.
     let tick = ap (λ n. rising 0 n held) (next_tick blocks per pages ix can b is) in
     record {
       freezes = λ e. absurd (not_made b held (label_of ix.label) (tick ∙ frozen_rises blocks per pages ix can held e) none);
