@@ -2,8 +2,7 @@
 use Rattle.std.proofs.Common.{◌≡◌, ℕ, ◌<◌, ◌≤◌, Bool, false, eqb, ltb, List, [], ◌∷◌, reverse, length, Result, sym, refl, ap, ◌∙◌, inl, inr, arith}
 use Rattle.chip.specs.Pages.{Page}
 use Rattle.limits.specs.Values.{held_of, label_of}
-use Rattle.std.proofs.lemmas.List.{length-reverse, length-take-le}
-use Rattle.limits.specs.declared.types.Bounded.{Bounded}
+use Rattle.std.proofs.lemmas.List.{length-reverse}
 use Rattle.std.proofs.lemmas.Bool.{eqb-false}
 use Rattle.readings.specs.Versions.{Content, has, Reading, add}
 use Rattle.readings.specs.Sorted.{In, reading_of}

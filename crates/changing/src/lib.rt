@@ -1,4 +1,5 @@
 // Changes of an open store: each leaves it open, with a reading that is known.
+// Chip and index are lent apart: a struct of both would be made anew at each call, and could not say what stays.
 #![tactic(auto)]
 
 mod back;

@@ -1,4 +1,5 @@
 // Moving pages: what is to stay of a block goes to the spare block, and the block is erased.
+// Chip and index are lent apart: a struct of both would be made anew at each call, and could not say what stays.
 #![tactic(auto)]
 
 ghost use Rattle.std.specs.Prelude.{◌≡◌, ℕ, ◌+◌, ◌<◌, ◌≤◌, slice_index_or};

@@ -1,4 +1,5 @@
 // Room for one more page: an erased page, and the block to clean where there is none.
+// Chip and index are lent apart: a struct of both would be made anew at each call, and could not say what stays.
 #![tactic(auto)]
 
 ghost use Rattle.std.specs.Prelude.{◌≡◌, ◌*◌, Some, None};
@@ -36,8 +37,8 @@ fn count_stale<C: Chip>(ix: &Index, block: BlockNumber, limit: u32) -> usize
         .count()
 }
 
-// The block other than the spare one with the most stale pages, if one has any. (By `max_by_key`, that
-// no block has more was not proved: its clause on a range gave the check too much to look through.)
+// The block other than the spare one with the most stale pages, if one has any.
+// By `max_by_key` over the blocks it was not proved that no block has more than the one chosen.
 fn choose_victim<C: Chip>(chip: &C, ix: &Index, limit: u32) -> Option<BlockNumber>
     ensures { Chosen ix.now limit C.Chip.per (C.Chip.blocks chip.now) result }
 {

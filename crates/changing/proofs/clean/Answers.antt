@@ -11,5 +11,5 @@ returns-clause-cleans g c =
     let e = c.clean_block.ensures in
     let pages = m.pages chip in
     λ o.
-      sweeps (m.blocks chip) m.per pages ix o (m.pages c.clean_block.new.chip) c.clean_block.new.ix e.lasting c.clean_block.result
-      (e.cleans (link_in pages ix) (last_birth_in pages ix) (opened_is_sound (m.blocks chip) m.per pages ix o) (last_stays (m.blocks chip) m.per pages ix o))
+    sweeps (m.blocks chip) m.per pages ix o (m.pages c.clean_block.new.chip) c.clean_block.new.ix e.lasting c.clean_block.result
+    (e.cleans (link_in pages ix) (last_birth_in pages ix) (opened_is_sound (m.blocks chip) m.per pages ix o) (last_stays (m.blocks chip) m.per pages ix o))

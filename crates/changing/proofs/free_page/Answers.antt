@@ -12,6 +12,6 @@ returns-clause-readies g c =
     let e = c.make_room.ensures in
     let pages = m.pages chip in
     λ o.
-      readies (m.blocks chip) m.per pages ix o (m.pages c.make_room.new.chip) c.make_room.new.ix e.lasting c.make_room.result
-      (e.makes (link_in pages ix) (last_birth_in pages ix) (opened_is_sound (m.blocks chip) m.per pages ix o) (last_stays (m.blocks chip) m.per pages ix o)
-      (there_is_room (m.blocks chip) m.per pages ix o m.shape.least))
+    readies (m.blocks chip) m.per pages ix o (m.pages c.make_room.new.chip) c.make_room.new.ix e.lasting c.make_room.result
+    (e.makes (link_in pages ix) (last_birth_in pages ix) (opened_is_sound (m.blocks chip) m.per pages ix o) (last_stays (m.blocks chip) m.per pages ix o)
+    (there_is_room (m.blocks chip) m.per pages ix o m.shape.least))

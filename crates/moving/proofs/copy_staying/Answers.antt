@@ -4,7 +4,7 @@ use Rattle.tables.specs.declared.index.Index.{Index}
 use Rattle.tables.specs.Records.{unused}
 use Rattle.moving.specs.Sound.{page_stays, record_stays, Lasting, lasting}
 use Rattle.moving.specs.Moves.{Copied}
-use Rattle.moving.proofs.Copies.{not_both, copied_none, movable, record_there, copied_more, copied_left}
+use Rattle.moving.proofs.Copies.{not_both, movable, record_there, copied_more, copied_left}
 use Rattle.moving.proofs.copy_staying.Goals as goal
 use Rattle.moving.proofs.copy_staying.Goals.{then-page_stays+in_ok-move_page, else-page_stays}
 
@@ -22,8 +22,8 @@ returns-in_err-move_page-clause-copied g c =
     let per_is = c.block_pages-per.ensures in
     let h : c.loop-i.i < m.per = omega arith in
     λ link last_birth p.
-      let ok = (e.moved (movable (m.blocks c.args.chip.now) m.per (m.pages c.args.chip.now) c.args.ix.now link last_birth c.args.limit c.args.from c.args.to p c.loop-i.i h (m.pages c.loop-i.chip) c.loop-i.ix (inv.3 link last_birth p))).ok in
-      absurd (not_both c.move_page.result c.in_err-move_page.field-0.0 c.in_err-move_page.was ok)
+    let ok = (e.moved (movable (m.blocks c.args.chip.now) m.per (m.pages c.args.chip.now) c.args.ix.now link last_birth c.args.limit c.args.from c.args.to p c.loop-i.i h (m.pages c.loop-i.chip) c.loop-i.ix (inv.3 link last_birth p))).ok in
+    absurd (not_both c.move_page.result c.in_err-move_page.field-0.0 c.in_err-move_page.was ok)
 
 pub loop-i-preserved : goal.loop-i-preserved
 loop-i-preserved g c =
@@ -71,4 +71,4 @@ returns-clause-copied g c =
     let inv = c.loop-i.invariant in
     let end : c.loop-i.i ≡ m.per = omega arith in
     λ link last_birth p.
-      (refl, subst (λ n. Copied (page_stays c.args.ix.now c.args.limit) c.args.from c.args.to n (m.pages c.args.chip.now) c.args.ix.now (m.pages c.loop-i.chip) c.loop-i.ix) end (inv.3 link last_birth p))
+    (refl, subst (λ n. Copied (page_stays c.args.ix.now c.args.limit) c.args.from c.args.to n (m.pages c.args.chip.now) c.args.ix.now (m.pages c.loop-i.chip) c.loop-i.ix) end (inv.3 link last_birth p))

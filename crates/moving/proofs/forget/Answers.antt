@@ -1,6 +1,5 @@
-use Rattle.std.proofs.Common.{◌≡◌, ℕ, ◌+◌, ◌-◌, ◌≤◌, List, length, get_or, drop, take, replicate, sym, refl, ap, ◌∙◌, inl, inr, arith, length-take, length-drop, drop-drop}
+use Rattle.std.proofs.Common.{◌≡◌, ℕ, ◌+◌, ◌-◌, ◌≤◌, List, length, get_or, drop, take, replicate, inl, inr, arith, length-take, length-drop, drop-drop}
 use borrow.Rule.Slice.PartMut.{put_mid, mid_of}
-use Rattle.std.proofs.lemmas.List.{places}
 use Rattle.tables.specs.declared.types.Record.{Record}
 use Rattle.tables.specs.Records.{unused}
 use Rattle.moving.specs.Moves.{forgotten_at}

@@ -1,4 +1,3 @@
-use Rattle.std.proofs.Common.{refl}
 use Rattle.room.proofs.Rooms.{cleaned_none}
 use Rattle.room.proofs.clean_block.Goals as goal
 
@@ -8,4 +7,4 @@ returns-in-None-clause-cleans g c =
     let chip = c.args.chip.now in
     let ix = c.args.ix.now in
     λ link last_birth sound last.
-      cleaned_none (m.blocks chip) m.per (m.pages chip) ix link last_birth c.args.limit sound m.shape.least c.in-None.ensures
+    cleaned_none (m.blocks chip) m.per (m.pages chip) ix link last_birth c.args.limit sound m.shape.least c.in-None.ensures

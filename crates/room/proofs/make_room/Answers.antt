@@ -1,4 +1,4 @@
-use Rattle.std.proofs.Common.{refl, sym, subst, arith}
+use Rattle.std.proofs.Common.{sym, subst, arith}
 use Rattle.room.specs.Choose.{Found}
 use Rattle.room.proofs.Blocks.{found_first}
 use Rattle.room.proofs.Rooms.{placed_still}
@@ -11,5 +11,5 @@ returns-in-Some-clause-makes g c =
     let ix = c.args.ix.now in
     let least = m.shape.least in
     λ link last_birth sound last fits.
-      placed_still (m.blocks chip) m.per (m.pages chip) ix link last_birth c.args.limit sound least c.in-Some.page
-      (subst (Found ix m.per) (sym c.in-Some.ensures) (found_first m.per ix (omega arith)))
+    placed_still (m.blocks chip) m.per (m.pages chip) ix link last_birth c.args.limit sound least c.in-Some.page
+    (subst (Found ix m.per) (sym c.in-Some.ensures) (found_first m.per ix (omega arith)))

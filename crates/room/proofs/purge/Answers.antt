@@ -46,12 +46,12 @@ returns-in_err-relocate-clause-purged g c =
     let limit = c.args.limit in
     let here : Has m.per ix limit b = some_later m.per ix limit b c.has_later.result c.has_later.ensures c.if-has_later.true in
     λ link last_birth sound last.
-      let turn = inv.3 link last_birth sound last in
-      let now-sound : Sound (m.blocks chip) m.per (m.pages chip) ix link last_birth = subst (λ n. Sound n m.per (m.pages chip) ix link last_birth) (sym inv.1) turn.0 in
-      let first : b < m.blocks chip = let t = c.loop-b-test.true in let q = inv.1 in omega arith in
-      let done = e.done link last_birth now-sound (last_stay_same c.args.ix.now ix link limit inv.2 last_birth last) first
-      (not_spare (m.blocks chip) m.per (m.pages chip) ix link last_birth limit now-sound b first here.0 here.1 here.2) in
-      absurd (not_both c.relocate.result c.in_err-relocate.field-0.0 c.in_err-relocate.was done.ok)
+    let turn = inv.3 link last_birth sound last in
+    let now-sound : Sound (m.blocks chip) m.per (m.pages chip) ix link last_birth = subst (λ n. Sound n m.per (m.pages chip) ix link last_birth) (sym inv.1) turn.0 in
+    let first : b < m.blocks chip = let t = c.loop-b-test.true in let q = inv.1 in omega arith in
+    let done = e.done link last_birth now-sound (last_stay_same c.args.ix.now ix link limit inv.2 last_birth last) first
+    (not_spare (m.blocks chip) m.per (m.pages chip) ix link last_birth limit now-sound b first here.0 here.1 here.2) in
+    absurd (not_both c.relocate.result c.in_err-relocate.field-0.0 c.in_err-relocate.was done.ok)
 
 pub loop-b-preserved : goal.loop-b-preserved
 loop-b-preserved g c =
@@ -109,12 +109,12 @@ returns-clause-purged g c =
     let chip = c.loop-b.chip in
     let end : c.loop-b.b ≡ m.blocks c.args.chip.now = let t = c.loop-b-test.false in let k = inv.4 in omega arith in
     λ link last_birth sound last.
-      let turn = inv.3 link last_birth sound last in
-      let all : c.loop-b.b * m.per ≡ length (m.pages chip) = ap (λ b. b * m.per) end ∙ sym turn.0.whole in
-      record {
-        ok = refl;
-        sound = turn.0;
-        kept = turn.1;
-        none_later = λ k h. turn.2 k (omega arith);
-        still = λ none. let s = turn.3 none in (ap m.pages s.0, s.1);
-      }
+    let turn = inv.3 link last_birth sound last in
+    let all : c.loop-b.b * m.per ≡ length (m.pages chip) = ap (λ b. b * m.per) end ∙ sym turn.0.whole in
+    record {
+      ok = refl;
+      sound = turn.0;
+      kept = turn.1;
+      none_later = λ k h. turn.2 k (omega arith);
+      still = λ none. let s = turn.3 none in (ap m.pages s.0, s.1);
+    }

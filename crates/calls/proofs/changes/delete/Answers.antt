@@ -24,25 +24,25 @@ pub returns-then-is_empty-clause-follows : goal.returns-then-is_empty-clause-fol
 returns-then-is_empty-clause-follows g c =
     let s = c.in_ok-sector.ensures in
     λ o.
-      changed_so _ _ _ _ _ _ _ _ _ (delete_empty _ _ _ s.1 (here (reading (sayings _)) _ _ _ s.0 (c.is_empty.ensures _ _ _ o ∙ c.if-is_empty.true)))
-      (ap (λ n. granted (n ∷ []) []) (sym (clock_reads _ _ _ _ o))) refl o
+    changed_so _ _ _ _ _ _ _ _ _ (delete_empty _ _ _ s.1 (here (reading (sayings _)) _ _ _ s.0 (c.is_empty.ensures _ _ _ o ∙ c.if-is_empty.true)))
+    (ap (λ n. granted (n ∷ []) []) (sym (clock_reads _ _ _ _ o))) refl o
 
 pub returns-in_err-check_ticks-clause-follows : goal.returns-in_err-check_ticks-clause-follows
 returns-in_err-check_ticks-clause-follows g c =
     let h = c.in_err-check_ticks.ensures in
     let s = c.in_ok-sector.ensures in
     λ o.
-      refused_at _ _ _ _ _ o tick_value 11 _ _ _ c.from_residual-in_err-check_ticks.ensures.1 h.0 refl
-      (delete_ticks _ _ _ s.1 (here (reading (sayings _)) _ _ _ s.0 (c.is_empty.ensures _ _ _ o ∙ c.if-is_empty.false)) (clock_test _ _ _ _ o true h.1))
+    refused_at _ _ _ _ _ o tick_value 11 _ _ _ c.from_residual-in_err-check_ticks.ensures.1 h.0 refl
+    (delete_ticks _ _ _ s.1 (here (reading (sayings _)) _ _ _ s.0 (c.is_empty.ensures _ _ _ o ∙ c.if-is_empty.false)) (clock_test _ _ _ _ o true h.1))
 
 pub returns-in_err-check_room-clause-follows : goal.returns-in_err-check_room-clause-follows
 returns-in_err-check_room-clause-follows g c =
     let h = c.in_err-check_room.ensures in
     let s = c.in_ok-sector.ensures in
     λ o.
-      refused_at _ _ _ _ _ o tick_value 12 _ _ _ c.from_residual-in_err-check_room.ensures.1 h.0 refl
-      (delete_full _ _ _ s.1 (here (reading (sayings _)) _ _ _ s.0 (c.is_empty.ensures _ _ _ o ∙ c.if-is_empty.false)) (clock_test _ _ _ _ o false c.in_ok-check_ticks.ensures)
-      (room_test _ _ _ _ o _ _ _ true s.0 c.in_ok-sector.sector.last h.1))
+    refused_at _ _ _ _ _ o tick_value 12 _ _ _ c.from_residual-in_err-check_room.ensures.1 h.0 refl
+    (delete_full _ _ _ s.1 (here (reading (sayings _)) _ _ _ s.0 (c.is_empty.ensures _ _ _ o ∙ c.if-is_empty.false)) (clock_test _ _ _ _ o false c.in_ok-check_ticks.ensures)
+    (room_test _ _ _ _ o _ _ _ true s.0 c.in_ok-sector.sector.last h.1))
 
 pub returns-clause-follows : goal.returns-clause-follows
 returns-clause-follows g c =
@@ -56,10 +56,10 @@ returns-clause-follows g c =
     let clock = c.in_ok-check_ticks.ensures in
     let room = c.in_ok-check_room.ensures in
     λ o.
-      let fits = room_test (m.blocks chip) m.per (m.pages chip) ix o n n deleted false refl c.in_ok-sector.sector.last room in
-      let made = e.adds (can_change (m.blocks chip) m.per (m.pages chip) ix o clock) (ltb-false _ _ fits) in
-      changed_by _ (m.blocks chip) m.per (m.pages chip) ix _ _ _ _ _
-      (delete_granted _ _ _ s.1 (here r _ _ _ s.0 (c.is_empty.ensures _ _ _ o ∙ c.if-is_empty.false)) (clock_test _ _ _ _ o false clock)
-      (room_test _ _ _ _ o _ _ _ false s.0 c.in_ok-sector.sector.last room))
-      (subst (λ z. Changed (m.blocks chip) m.per z c.add_deletion-made.result (m.pages c.add_deletion-made.new.chip) c.add_deletion-made.new.ix) (ap (λ k. add r k deleted) s.0) made)
-      c.clock_after.ensures
+    let fits = room_test (m.blocks chip) m.per (m.pages chip) ix o n n deleted false refl c.in_ok-sector.sector.last room in
+    let made = e.adds (can_change (m.blocks chip) m.per (m.pages chip) ix o clock) (ltb-false _ _ fits) in
+    changed_by _ (m.blocks chip) m.per (m.pages chip) ix _ _ _ _ _
+    (delete_granted _ _ _ s.1 (here r _ _ _ s.0 (c.is_empty.ensures _ _ _ o ∙ c.if-is_empty.false)) (clock_test _ _ _ _ o false clock)
+    (room_test _ _ _ _ o _ _ _ false s.0 c.in_ok-sector.sector.last room))
+    (subst (λ z. Changed (m.blocks chip) m.per z c.add_deletion-made.result (m.pages c.add_deletion-made.new.chip) c.add_deletion-made.new.ix) (ap (λ k. add r k deleted) s.0) made)
+    c.clock_after.ensures

@@ -22,11 +22,11 @@ returns-in_err-purge-clause-cuts g c =
     let ix₁ = c.rewind.new.ix in
     let p = c.purge.ensures in
     λ can h.
-      cut_result (m.blocks chip) m.per (m.pages chip) ix c.args.number c.args.held _ _ _ can h (p.lasting ∙ lasts ix c.args.number c.args.held ix₁ w) (λ left cuttable are.
-      let o = can.opened in
-      let prep = prepared (m.blocks chip) m.per (m.pages chip) ix c.args.number left c.args.held ix₁ o cuttable are w in
-      let done = purged (m.blocks chip) m.per (m.pages chip) ix c.args.number left o cuttable m.shape.least ix₁ prep c.purge.result (m.pages c.purge.new.chip) c.purge.new.ix p.purged in
-      absurd (not_both c.purge.result c.in_err-purge.field-0.0 c.in_err-purge.was done.ok))
+    cut_result (m.blocks chip) m.per (m.pages chip) ix c.args.number c.args.held _ _ _ can h (p.lasting ∙ lasts ix c.args.number c.args.held ix₁ w) (λ left cuttable are.
+    let o = can.opened in
+    let prep = prepared (m.blocks chip) m.per (m.pages chip) ix c.args.number left c.args.held ix₁ o cuttable are w in
+    let done = purged (m.blocks chip) m.per (m.pages chip) ix c.args.number left o cuttable m.shape.least ix₁ prep c.purge.result (m.pages c.purge.new.chip) c.purge.new.ix p.purged in
+    absurd (not_both c.purge.result c.in_err-purge.field-0.0 c.in_err-purge.was done.ok))
 
 pub returns-clause-cuts : goal.returns-clause-cuts
 returns-clause-cuts g c =
@@ -42,10 +42,10 @@ returns-clause-cuts g c =
     let pages₃ = m.pages c.make_room.new.chip in
     let ix₃ = c.make_room.new.ix in
     λ can h.
-      cut_result (m.blocks chip) m.per (m.pages chip) ix c.args.number c.args.held c.make_room.result pages₃ ix₃ can h (q.lasting ∙ p.lasting ∙ lasts ix c.args.number c.args.held ix₁ w) (λ left cuttable are.
-      let o = can.opened in
-      let prep = prepared (m.blocks chip) m.per (m.pages chip) ix c.args.number left c.args.held ix₁ o cuttable are w in
-      let done = purged (m.blocks chip) m.per (m.pages chip) ix c.args.number left o cuttable m.shape.least ix₁ prep c.purge.result pages₂ ix₂ p.purged in
-      let makes : MakesRoom (m.blocks chip) m.per pages₂ ix₂ c.args.number c.make_room.result pages₃ ix₃ =
-      subst (λ b. MakesRoom b m.per pages₂ ix₂ c.args.number c.make_room.result pages₃ ix₃) p.same q.makes in
-      cuts (m.blocks chip) m.per (m.pages chip) ix c.args.number left o cuttable m.shape.least ix₁ prep c.purge.result pages₂ ix₂ p.lasting done c.make_room.result pages₃ ix₃ makes)
+    cut_result (m.blocks chip) m.per (m.pages chip) ix c.args.number c.args.held c.make_room.result pages₃ ix₃ can h (q.lasting ∙ p.lasting ∙ lasts ix c.args.number c.args.held ix₁ w) (λ left cuttable are.
+    let o = can.opened in
+    let prep = prepared (m.blocks chip) m.per (m.pages chip) ix c.args.number left c.args.held ix₁ o cuttable are w in
+    let done = purged (m.blocks chip) m.per (m.pages chip) ix c.args.number left o cuttable m.shape.least ix₁ prep c.purge.result pages₂ ix₂ p.purged in
+    let makes : MakesRoom (m.blocks chip) m.per pages₂ ix₂ c.args.number c.make_room.result pages₃ ix₃ =
+    subst (λ b. MakesRoom b m.per pages₂ ix₂ c.args.number c.make_room.result pages₃ ix₃) p.same q.makes in
+    cuts (m.blocks chip) m.per (m.pages chip) ix c.args.number left o cuttable m.shape.least ix₁ prep c.purge.result pages₂ ix₂ p.lasting done c.make_room.result pages₃ ix₃ makes)

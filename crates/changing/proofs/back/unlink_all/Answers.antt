@@ -1,6 +1,4 @@
-use Rattle.std.proofs.Common.{ap, ◌∙◌, arith, length-set}
-use Rattle.tables.specs.declared.types.Record.{Record}
-use Rattle.changing.specs.Back.{unlinked}
+use Rattle.std.proofs.Common.{◌∙◌, arith, length-set}
 use Rattle.changing.proofs.Restarting.{unlinked_more}
 use Rattle.changing.proofs.back.unlink_all.Goals as goal
 

@@ -7,5 +7,5 @@ abbrev pub invariant-loop-record : goal.invariant-loop-record
 invariant-loop-record l = record {
   long : length l.record-items ≡ 2048;
   before : (j : ℕ) → j < l.record-index → get_or l.record-items j unused ≡ unlinked l.number (get_or l.initial.record-items j unused);
-  behind : (j : ℕ) → l.record-index ≤ j → get_or l.record-items j unused ≡ get_or l.initial.record-items j unused
+  behind : (j : ℕ) → l.record-index ≤ j → get_or l.record-items j unused ≡ get_or l.initial.record-items j unused;
 }

@@ -16,9 +16,9 @@ returns-clause-begins g c =
     let first = c.first_register.ensures in
     let p = c.program.ensures in
     λ blocks are two small blank.
-      let whole = m.shape.whole c.args.chip.now ∙ ap (λ b. b * m.per) are in
-      let some = some_page blocks m.per _ two m.shape.least whole in
-      let done = programmed pages₁ 0 image c.program.result pages₂ some (omega arith) (blank 0 some) p.answer p.after in
-      let says = first_says c.first_register.result label image first.birth first.held first.label c.write_register.ensures.writes in
-      let form = formatted blocks m.per pages₁ image (label_of label) two m.shape.least small whole some blank says in
-      subst (λ r. Begins blocks m.per (label_of label) r pages₂) (sym done.0) (subst (λ z. Formatted blocks m.per z 0 1 (label_of label)) (sym done.1) form)
+    let whole = m.shape.whole c.args.chip.now ∙ ap (λ b. b * m.per) are in
+    let some = some_page blocks m.per _ two m.shape.least whole in
+    let done = programmed pages₁ 0 image c.program.result pages₂ some (omega arith) (blank 0 some) p.answer p.after in
+    let says = first_says c.first_register.result label image first.birth first.held first.label c.write_register.ensures.writes in
+    let form = formatted blocks m.per pages₁ image (label_of label) two m.shape.least small whole some blank says in
+    subst (λ r. Begins blocks m.per (label_of label) r pages₂) (sym done.0) (subst (λ z. Formatted blocks m.per z 0 1 (label_of label)) (sym done.1) form)
