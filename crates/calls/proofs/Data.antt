@@ -1,5 +1,5 @@
 -- What the page of a version holds.
-use Rattle.std.proofs.Common.{◌≡◌, ℕ, ◌<◌, Bool, true, false, not, List, [], ◌∷◌, length, get_or, take, is_some, Some, None, Option, sym, refl, ap, ◌∙◌, subst, arith}
+use Rattle.std.proofs.Common.{◌≡◌, ℕ, ◌<◌, Bool, true, false, cond, not, List, [], ◌∷◌, length, get_or, take, is_some, Some, None, Option, sym, refl, ap, ◌∙◌, subst, arith}
 use mathlib.Core.Option as opt
 use Rattle.std.proofs.lemmas.Bool.{both_ways}
 use Rattle.chip.specs.declared.PageNumber.{PageNumber}
@@ -13,7 +13,7 @@ use Rattle.keeping.specs.Opened.{Opened}
 use Rattle.noting.specs.Lookups.{Shows}
 use Rattle.rules.specs.Calls.{granted, shown, born_at, is_none, read_answer}
 use Rattle.rules.specs.Told.{holding_value, since_value}
-use Rattle.calls.specs.Holds.{is_data, HasData, HasNone, Holds, fetched, Fills, born_of}
+use Rattle.calls.specs.Holds.{is_data, data_page, HasData, HasNone, Holds, fetched, Fills, born_of}
 
 content_bytes : Content → List ℕ
 content_bytes (bytes bs) = bs
@@ -50,7 +50,7 @@ module _ (blocks per : ℕ) (pages : List Page) (ix : Index) (o : Opened blocks 
   agrees k v h e = subst (λ (x : Saying). Agrees x (get_or ix.records k unused)) e (o.tells.agree k h)
 
   -- A page by its kind: data.
-  pub data_held : (p : PageNumber) (w : opt.Option Version) → Shows pages (Some p) w → is_data (get_or ix.records p.0 unused).kind ≡ true → HasData pages ix w p.0
+  data_held : (p : PageNumber) (w : opt.Option Version) → Shows pages (Some p) w → is_data (get_or ix.records p.0 unused).kind ≡ true → HasData pages ix w p.0
   data_held p w h k =
       go h.0.sector h.0.birth h.0.content h.1 h.2 h.3
     where
@@ -65,7 +65,7 @@ module _ (blocks per : ℕ) (pages : List Page) (ix : Index) (o : Opened blocks 
       go s b deleted e i y = absurd (both_ways _ (ap is_data (agrees p.0 _ i y).0) k)
 
   -- A page by its kind: no data.
-  pub none_held : (p : PageNumber) (w : opt.Option Version) → Shows pages (Some p) w → is_data (get_or ix.records p.0 unused).kind ≡ false → HasNone w
+  none_held : (p : PageNumber) (w : opt.Option Version) → Shows pages (Some p) w → is_data (get_or ix.records p.0 unused).kind ≡ false → HasNone w
   none_held p w h k =
       go h.0.sector h.0.birth h.0.content h.1 h.2 h.3
     where
@@ -74,8 +74,17 @@ module _ (blocks per : ℕ) (pages : List Page) (ix : Index) (o : Opened blocks 
       go s b (bytes bs) e i y = absurd (both_ways _ k (ap is_data (agrees p.0 _ i y).0))
       go s b deleted e i y = record { shows = ap shown e; born = ap born_at e }
 
-pub none_there : (pages : List Page) (w : opt.Option Version) → Shows pages None w → HasNone w
+none_there : (pages : List Page) (w : opt.Option Version) → Shows pages None w → HasNone w
 none_there pages w e = record { shows = ap shown e; born = ap born_at e }
+
+-- A found page holds what its version shows.
+pub holds_data : (blocks per : ℕ) (pages : List Page) (ix : Index) → Opened blocks per pages ix → (p : Option PageNumber) (w : opt.Option Version) → Shows pages p w → Holds pages ix w (data_page ix p)
+holds_data blocks per pages ix o None w h = none_there pages w h
+holds_data blocks per pages ix o (Some p) w h = go (is_data (get_or ix.records p.0 unused).kind) refl
+  where
+    go : (b : Bool) → is_data (get_or ix.records p.0 unused).kind ≡ b → Holds pages ix w (cond b (Some p) None)
+    go true e = data_held blocks per pages ix o p w h e
+    go false e = none_held blocks per pages ix o p w h e
 
 -- Whether a sector is empty, by the page with its data.
 pub empty_test : (pages : List Page) (ix : Index) (w : opt.Option Version) (p : Option PageNumber) (b : Bool) → Holds pages ix w p → is_some p ≡ not b → is_none (shown w) ≡ b

@@ -2,8 +2,7 @@
 use Rattle.std.proofs.Common.{◌≡◌, ℕ, ◌<◌, ◌≤◌, Bool, false, eqb, ltb, List, [], ◌∷◌, reverse, length, Result, sym, refl, ap, ◌∙◌, inl, inr, arith}
 use Rattle.chip.specs.Pages.{Page}
 use Rattle.limits.specs.Values.{held_of, label_of}
-use Rattle.std.proofs.lemmas.List.{length-reverse, length-take-le}
-use Rattle.limits.specs.declared.types.Bounded.{Bounded}
+use Rattle.std.proofs.lemmas.List.{length-reverse}
 use Rattle.std.proofs.lemmas.Bool.{eqb-false}
 use Rattle.readings.specs.Versions.{Content, has, Reading, add}
 use Rattle.readings.specs.Sorted.{In, reading_of}
@@ -55,9 +54,6 @@ born_last (bad cause) l = omega arith
 
 below_last : (n : ℕ) → n ≤ last_clock → (n ≡ last_clock → ⊥) → n < last_clock
 below_last n h k = omega arith
-
-pub label_size : (label : Bounded ℕ 32) → length (label_of label) ≡ label.len
-label_size label = length-take-le label.len label.items (let a = label.few in let b = label.room in omega arith)
 
 module _ (blocks per : ℕ) (pages : List Page) (ix : Index) (o : Opened blocks per pages ix) where
   abbrev r : Reading

@@ -1,8 +1,10 @@
 -- The page with the data of a sector.
-use Rattle.std.specs.Prelude.{◌≡◌, ℕ, ◌<◌, Bool, true, false, List, [], ◌∷◌, length, get_or, take, replicate, Some, None, Option, slice_index_or}
+use Rattle.std.specs.Prelude.{◌≡◌, ℕ, ◌<◌, ◌-◌, Bool, true, false, cond, ◌++◌, ◌==◌, List, [], ◌∷◌, length, get_or, take, replicate, Some, None, Option, slice_index_or}
 use Rattle.std.proofs.Math.Option as opt
 use Rattle.chip.specs.declared.PageNumber.{PageNumber}
 use Rattle.chip.specs.Pages.{Page}
+use Rattle.limits.specs.declared.types.Bounded.{Bounded}
+use Rattle.limits.specs.Values.{items_of}
 use Rattle.readings.specs.Versions.{Version}
 use Rattle.tables.specs.declared.index.Index.{Index}
 use Rattle.tables.specs.declared.types.Kind.{Kind}
@@ -18,6 +20,11 @@ is_data kind.Data = true
 is_data kind.Erased = false
 is_data kind.Deletion = false
 is_data kind.Register = false
+
+-- The page, if its record is of data.
+abbrev pub data_page : Index → Option PageNumber → Option PageNumber
+data_page ix None = None
+data_page ix (Some p) = cond (is_data (get_or ix.records p.0 unused).kind) (Some p) None
 
 -- Page p has the bytes that the version o shows, and its record has the birth.
 pub record HasData (pages : List Page) (ix : Index) (o : opt.Option Version) (p : ℕ) : Type 0 where
@@ -47,3 +54,9 @@ Fills pages (Some p) buffer = p.0 < length pages → buffer ≡ take 512 (slice_
 abbrev pub born_of : Index → Option PageNumber → Option Tick
 born_of ix None = None
 born_of ix (Some p) = Some (record { 0 = (get_or ix.records p.0 unused).birth })
+
+-- The buffer has the length asked for, and the items with zeros after them; there are n.
+pub record Listed {A : Type 0} {most : ℕ} (given : Bounded A most) (zero : A) (old : List A) (n : ℕ) (buffer : List A) : Type 0 where
+  pub fits : (length old == most) ≡ true
+  pub long : n ≡ length (items_of given)
+  pub lists : buffer ≡ items_of given ++ replicate (most - length (items_of given)) zero

@@ -21,10 +21,8 @@ use tables::Index;
 fn clock_after(made: Result<(), ChipFault>, ix: &Index) -> Result<Tick, Refusal>
     ensures { result ≡ clock_or made ix.now.clock }
 {
-    match made {
-        Ok(()) => Ok(Tick(ix.clock)),
-        Err(_) => Err(Refusal::NotAStore),
-    }
+    made?;
+    Ok(Tick(ix.clock))
 }
 
 // Adds a version of 512 bytes.
@@ -66,10 +64,7 @@ pub fn delete<C: Chip>(chip: &mut C, ix: &mut Index, sector: SectorNumber) -> Re
 fn hold_next(ix: &Index) -> Result<Held, Refusal>
     ensures { MatchResult result (λ h. (length (held_of ix.now.held) < 8) × ((ix.now.clock < 4294967294 → held_of h ≡ held_of ix.now.held ++ (suc ix.now.clock ∷ [])))) (λ f. (f ≡ TooManyHeld) × (8 ≤ length (held_of ix.now.held))) }
 {
-    match hold_number(&ix.held, ix.clock.min(LAST_BIRTH - 1) + 1) {
-        Some(held) => Ok(held),
-        None => Err(Refusal::TooManyHeld),
-    }
+    hold_number(&ix.held, ix.clock.min(LAST_BIRTH - 1) + 1).ok_or(Refusal::TooManyHeld)
 }
 
 // Holds the next tick; that of an open is the same.
@@ -137,8 +132,5 @@ pub fn clean<C: Chip>(chip: &mut C, ix: &mut Index) -> Result<usize, Refusal>
     ensures same { C.Chip.blocks chip.new ≡ C.Chip.blocks chip.old }
     ensures cleans { Cleans (C.Chip.blocks chip.old) C.Chip.per (C.Chip.pages chip.old) ix.old (told size_value [] result) (C.Chip.pages chip.new) ix.new }
 {
-    match sweep(chip, ix) {
-        Ok(lost) => Ok(lost),
-        Err(_) => Err(Refusal::NotAStore),
-    }
+    Ok(sweep(chip, ix)?)
 }

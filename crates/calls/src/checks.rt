@@ -17,10 +17,7 @@ use tables::Index;
 pub(crate) fn check_sector(sector: SectorNumber) -> Result<Sector, Refusal>
     ensures { MatchResult result (λ s. (s.number ≡ sector.0) × (nat_lt 2047 sector.0 ≡ false)) (λ f. (f ≡ NoSuchSector) × (nat_lt 2047 sector.0 ≡ true)) }
 {
-    match Sector::new(sector) {
-        Some(sector) => Ok(sector),
-        None => Err(Refusal::NoSuchSector),
-    }
+    Sector::new(sector).ok_or(Refusal::NoSuchSector)
 }
 
 pub(crate) fn check_length(given: usize, wanted: usize) -> Result<(), Refusal>
@@ -37,13 +34,7 @@ pub(crate) fn check_length(given: usize, wanted: usize) -> Result<(), Refusal>
 pub(crate) fn block_of(given: &[u8]) -> Result<[u8; DATA_BYTES], Refusal>
     ensures { MatchResult result (λ block. (block ≡ given.now) × ((length given.now == 512) ≡ true)) (λ f. (f ≡ BufferLength) × ((length given.now == 512) ≡ false)) }
 {
-    if given.len() == DATA_BYTES {
-        let mut block = [0; DATA_BYTES];
-        block.copy_from_slice(given);
-        Ok(block)
-    } else {
-        Err(Refusal::BufferLength)
-    }
+    <[u8; DATA_BYTES]>::try_from(given).map_err(|_| Refusal::BufferLength)
 }
 
 pub(crate) fn check_held(ix: &Index, state: Tick) -> Result<(), Refusal>

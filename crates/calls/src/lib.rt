@@ -1,4 +1,5 @@
 // The calls on an open store, over its chip and what it has in memory.
+// Chip and index are lent apart: a struct of both would be made anew at each call, and could not say what stays.
 #![tactic(auto)]
 
 mod changes;

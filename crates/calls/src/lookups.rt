@@ -1,16 +1,14 @@
 // The pages with the data of sectors.
 ghost use Rattle.std.specs.Prelude.{◌≡◌, ℕ, true, List};
-ghost use Rattle.std.proofs.Math.Option.{Option as Maybe};
 ghost use Rattle.chip.specs.Pages.{Page};
 ghost use Rattle.limits.specs.Values.{held_of};
-ghost use Rattle.readings.specs.Versions.{Version, has};
+ghost use Rattle.readings.specs.Versions.{has};
 ghost use Rattle.readings.specs.Sayings.{sayings};
 ghost use Rattle.readings.specs.Reading.{reading};
 ghost use Rattle.readings.specs.Changes.{present, in_state};
 ghost use Rattle.keeping.specs.Opened.{Opened};
-ghost use Rattle.noting.specs.Lookups.{Shows};
 ghost use Rattle.rules.specs.Calls.{shown, is_none};
-ghost use Rattle.calls.specs.Holds.{is_data, Holds};
+ghost use Rattle.calls.specs.Holds.{Holds, data_page};
 
 use chip::PageNumber;
 use limits::Sector;
@@ -18,28 +16,11 @@ use noting::{page_in_state, present_page};
 use rules::Tick;
 use tables::{Index, Kind};
 
-fn is_data(kind: Kind) -> bool
-    ensures { result ≡ is_data kind }
-{
-    match kind {
-        Kind::Data => true,
-        Kind::Erased | Kind::Deletion | Kind::Register => false,
-    }
-}
-
 // The page of a version, if the version holds data.
 fn data_of(ix: &Index, found: Option<PageNumber>) -> Option<PageNumber>
-    ensures { (blocks per : ℕ) (pages : List Page) (o : Maybe Version) → Opened blocks per pages ix.now → Shows pages found o → Holds pages ix.now o result }
+    ensures { result ≡ data_page ix.now found }
 {
-    let Some(page) = found else {
-        return None;
-    };
-    let saved = ix.at(page.0 as usize);
-    if is_data(saved.kind) {
-        Some(page)
-    } else {
-        None
-    }
+    found.filter(|page| ix.at(page.0 as usize).kind == Kind::Data)
 }
 
 // The page with what a sector holds.

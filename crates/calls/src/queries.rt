@@ -1,15 +1,16 @@
 // Calls that change nothing.
-ghost use Rattle.std.specs.Prelude.{◌≡◌, [], length};
+ghost use Rattle.std.specs.Prelude.{◌≡◌, false, [], length, MatchResult, ◌==◌};
+ghost use Rattle.refusals.specs.declared.types.Refusal.TheVariants.{BufferLength};
 ghost use Rattle.rules.specs.Calls.{granted, read, look, since, since_in, count, ask_held, ask_label};
 ghost use Rattle.rules.specs.Told.{told, holding_value, since_value, count_value, size_value};
 ghost use Rattle.calls.specs.Follows.{Tells};
-ghost use Rattle.calls.specs.Holds.{born_of, fetched, Fills};
+ghost use Rattle.calls.specs.Holds.{born_of, fetched, Fills, Listed};
 
 use crate::checks::{capacity_of, check_held, check_length, check_sector};
 use crate::lookups::{data_in_state, present_data};
 use chip::{Chip, PAGE_BYTES, PageNumber, SectorNumber};
 use layout::DATA_BYTES;
-use limits::{LABEL_BYTES, MOST_HELD};
+use limits::Bounded;
 use noting::needed_count;
 use refusals::Refusal;
 use rules::{Count, Holding, Tick};
@@ -69,10 +70,7 @@ pub fn look<C: Chip>(
 fn born(ix: &Index, page: Option<PageNumber>) -> Option<Tick>
     ensures { result ≡ born_of ix.now page }
 {
-    match page {
-        Some(page) => Some(Tick(ix.at(page.0 as usize).birth)),
-        None => None,
-    }
+    page.map(|page| Tick(ix.at(page.0 as usize).birth))
 }
 
 // The birth of what a sector holds, or nothing where it is empty.
@@ -107,24 +105,31 @@ pub fn count<C: Chip>(chip: &C, ix: &Index) -> Count
     }
 }
 
+// Fills the buffer with the items and zeros after them, and answers how many there are.
+fn list<T: Copy + Default, const MOST: usize>(
+    given: &Bounded<T, MOST>,
+    zero: T,
+    buffer: &mut [T],
+) -> Result<usize, Refusal>
+    requires { (T.is_infallible zero) × ((y : T) → T.is_clone zero y → y ≡ zero) }
+    ensures { MatchResult result (λ n. Listed given.now zero buffer.old n buffer.new) (λ f. (f ≡ BufferLength) × ((length buffer.old == MOST) ≡ false) × (buffer.new ≡ buffer.old)) }
+{
+    check_length(buffer.len(), MOST)?;
+    buffer.fill(zero);
+    buffer[..given.len].copy_from_slice(given.as_slice());
+    Ok(given.len)
+}
+
 // Fills the buffer with the held numbers and 0, and answers how many there are.
 pub fn held<C: Chip>(chip: &C, ix: &Index, buffer: &mut [u32]) -> Result<usize, Refusal>
     ensures { Tells (ask_held buffer.old) (C.Chip.blocks chip.now) C.Chip.per (C.Chip.pages chip.now) ix.now (told size_value buffer.new result) }
 {
-    check_length(buffer.len(), MOST_HELD)?;
-    let count = ix.held.len;
-    buffer.fill(0);
-    buffer[0..count].copy_from_slice(ix.held.as_slice());
-    Ok(count)
+    list(&ix.held, 0, buffer)
 }
 
 // Fills the buffer with the label and 00, and answers how long it is.
 pub fn label<C: Chip>(chip: &C, ix: &Index, buffer: &mut [u8]) -> Result<usize, Refusal>
     ensures { Tells (ask_label buffer.old) (C.Chip.blocks chip.now) C.Chip.per (C.Chip.pages chip.now) ix.now (told size_value buffer.new result) }
 {
-    check_length(buffer.len(), LABEL_BYTES)?;
-    let size = ix.label.len;
-    buffer.fill(0);
-    buffer[0..size].copy_from_slice(ix.label.as_slice());
-    Ok(size)
+    list(&ix.label, 0, buffer)
 }

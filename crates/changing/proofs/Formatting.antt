@@ -1,5 +1,5 @@
 -- Erasing all blocks, and the first register.
-use Rattle.std.proofs.Common.{◌≡◌, ℕ, ◌+◌, ◌-◌, ◌*◌, ◌<◌, ◌≤◌, true, List, [], length, get_or, take, set, refl, ap, ◌∙◌, inl, inr, add-mul, arith, length-set}
+use Rattle.std.proofs.Common.{◌≡◌, ℕ, ◌+◌, ◌-◌, ◌*◌, ◌<◌, ◌≤◌, true, List, [], length, get_or, set, refl, ap, ◌∙◌, inl, inr, add-mul, arith, length-set}
 use Rattle.std.proofs.lemmas.List.{get_or-set_same, get_or-set_other, length-take-le}
 use Rattle.std.proofs.lemmas.Bool.{cases_lt}
 use Rattle.chip.specs.Pages.{Page, is_erased, pages_erased}

@@ -16,17 +16,17 @@ use Rattle.readings.proofs.Meaning.{words_mean}
 use Rattle.readings.proofs.Sorted.{sort_in}
 use Rattle.tables.specs.declared.index.Index.{Index}
 use Rattle.tables.specs.declared.types.Record.{Record}
-use Rattle.tables.specs.Records.{unused}
+use Rattle.tables.specs.Records.{unused, is_version, is_born_within}
 use Rattle.keeping.specs.Opened.{Opened}
 use Rattle.keeping.specs.Cut.{Cuttable, held_left}
 use Rattle.keeping.specs.Reopened.{HasYoungest, NoneUpTo, Prepared}
 use Rattle.keeping.proofs.Links.{when_of_true, when_of_false}
 use Rattle.keeping.proofs.Opened.{has_held}
 use Rattle.noting.specs.Consistent.{Consistent}
-use Rattle.noting.specs.Lookups.{Shows, page_number, is_version, is_of, Found, found_below, page_in_state}
+use Rattle.noting.specs.Lookups.{Shows, page_number, is_of, Found, found_below, page_in_state}
 use Rattle.noting.proofs.Added.{apart}
 use Rattle.noting.proofs.Youngest.{reading_youngest, shows_in_state}
-use Rattle.changing.specs.Back.{map_entry, is_between, entered, Rewound}
+use Rattle.changing.specs.Back.{map_entry, entered, Rewound}
 use Rattle.changing.proofs.Adding.{consistent}
 
 first_none : {A : Type 0} (p : A → Bool) (l : List A) (w : A) → In w l → p w ≡ true → first p l ≡ opt.none → ⊥
@@ -118,7 +118,7 @@ module _ (records : List Record) (long : length records ≡ 2048) (n : ℕ) wher
   entry_more s k h =
       let f = found_below records n s k in
       let r = at k in
-      let t = ap (λ b. eqb r.sector s && is_between b n r) (sym (births s k (omega arith))) ∙ same_test (is_version r.kind) (eqb r.sector s) (leb r.birth n) (ltb f.birth r.birth) in
+      let t = ap (λ b. eqb r.sector s && is_born_within b n r) (sym (births s k (omega arith))) ∙ same_test (is_version r.kind) (eqb r.sector s) (leb r.birth n) (ltb f.birth r.birth) in
       ap (λ t. cond t k (entry_at s k)) t ∙ go (is_of n s r && ltb f.birth r.birth) f
     where
       go : (t : Bool) (f : Found) → cond t k (map_entry f.page) ≡ map_entry (cond t (record { page = Some (page_number k); birth = (at k).birth }) f).page
@@ -131,23 +131,23 @@ module _ (records : List Record) (n k : ℕ) (r : Record) (is : r ≡ get_or rec
   was s = get_or map s 0
 
   abbrev test : ℕ → Bool
-  test s = is_between (get_or records (was s) unused).birth n (get_or records k unused)
+  test s = is_born_within (get_or records (was s) unused).birth n (get_or records k unused)
 
   pub other_sector : (s : ℕ) → (r.sector ≡ s → ⊥) → was s ≡ entered records n k s (was s)
   other_sector s ne =
       sym (cond-false (eqb (get_or records k unused).sector s && test s) k (was s) (and_left (eqb (get_or records k unused).sector s) (test s) (ne_eqb (get_or records k unused).sector s (λ e. ne (ap (λ (r : Record). r.sector) is ∙ e)))))
 
   module _ (r' : Record) (former : r' ≡ get_or records (was r.sector) unused) where
-    same : (b : Bool) → b ≡ is_between r'.birth n r → test r.sector ≡ b
-    same b e = sym (e ∙ (λ i. is_between (former i).birth n (is i)))
+    same : (b : Bool) → b ≡ is_born_within r'.birth n r → test r.sector ≡ b
+    same b e = sym (e ∙ (λ i. is_born_within (former i).birth n (is i)))
 
-    pub not_entered : false ≡ is_between r'.birth n r → (s : ℕ) → was s ≡ entered records n k s (was s)
+    pub not_entered : false ≡ is_born_within r'.birth n r → (s : ℕ) → was s ≡ entered records n k s (was s)
     not_entered e s = elim (cases_eq r.sector s) [
       | inl q ↦ sym (cond-false (eqb (get_or records k unused).sector s && test s) k (was s) (and_right (eqb (get_or records k unused).sector s) (test s) (ap test (sym q) ∙ same false e)))
       | inr ne ↦ other_sector s ne
     ]
 
-    pub is_entered : r.sector < length map → true ≡ is_between r'.birth n r → (s : ℕ) → get_or (set map r.sector k) s 0 ≡ entered records n k s (was s)
+    pub is_entered : r.sector < length map → true ≡ is_born_within r'.birth n r → (s : ℕ) → get_or (set map r.sector k) s 0 ≡ entered records n k s (was s)
     is_entered h e s = elim (cases_eq s r.sector) [
       | inl q ↦
           ap (λ i. get_or (set map r.sector k) i 0) q ∙ get_or-set_same map r.sector k 0 h

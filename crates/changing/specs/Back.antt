@@ -1,5 +1,5 @@
 -- Memory, rewound to a held number.
-use Rattle.std.specs.Prelude.{◌≡◌, ℕ, ◌+◌, ◌*◌, ◌<◌, ◌≤◌, min, Bool, true, cond, ◌&&◌, ltb, leb, ◌⊎◌, List, [], length, get_or, Some, None, Ok, Err, Option, Result, ◌==◌, nat_le, nat_lt, slice_index, slice_index_or}
+use Rattle.std.specs.Prelude.{◌≡◌, ℕ, ◌+◌, ◌*◌, ◌<◌, ◌≤◌, min, Bool, true, cond, ◌&&◌, ltb, leb, ◌⊎◌, List, [], length, get_or, Some, None, Ok, Err, Option, Result, ◌==◌, slice_index, slice_index_or}
 use Rattle.chip.specs.declared.ChipFault.{ChipFault}
 use Rattle.chip.specs.declared.PageNumber.{PageNumber}
 use Rattle.chip.specs.Pages.{Page, is_erased}
@@ -15,24 +15,20 @@ use Rattle.readings.specs.Sayings.{sayings}
 use Rattle.readings.specs.Reading.{reading}
 use Rattle.readings.specs.Changes.{reverted, backed}
 use Rattle.tables.specs.declared.types.Record.{Record}
-use Rattle.tables.specs.Records.{unused}
+use Rattle.tables.specs.Records.{unused, is_born_within}
 use Rattle.changing.specs.Changed.{Changed, CanChange}
-use Rattle.noting.specs.Lookups.{is_version, page_in_state}
+use Rattle.noting.specs.Lookups.{page_in_state}
 
 -- A page's number in the map; 65535 where there is none.
 abbrev pub map_entry : Option PageNumber → ℕ
 map_entry None = 65535
 map_entry (Some p) = min p.0 65535
 
--- A version that was born after b, and at or before n.
-abbrev pub is_between : ℕ → ℕ → Record → Bool
-is_between b n r = is_version r.kind && (nat_lt b r.birth && nat_le r.birth n)
-
 -- What the map has for sector s once page k was entered, where it had m.
 abbrev pub entered : List Record → ℕ → ℕ → ℕ → ℕ → ℕ
 entered records n k s m =
     let r = get_or records k unused in
-    cond (r.sector == s && is_between (get_or records m unused).birth n r) k m
+    cond (r.sector == s && is_born_within (get_or records m unused).birth n r) k m
 
 -- The map has what each sector had at n, and other numbers are held.
 pub record Rewound (ix : Index) (n : ℕ) (held : Bounded ℕ 8) (ix' : Index) : Type 0 where

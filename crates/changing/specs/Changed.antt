@@ -85,12 +85,12 @@ abbrev pub next_birth : Index → ℕ
 next_birth ix = min ix.clock 4294967293 + 1
 
 -- The image says a register with these held numbers; there is none where they don't rise.
-abbrev pub RegisterImage : Index → List ℕ → Page → Result (Unit {0}) ChipFault → Type 0
-RegisterImage ix held image (Ok u) = said image ≡ register (record { birth = next_birth ix; held = held; label = label_of ix.label })
-RegisterImage ix held image (Err fault) = rising 0 (next_birth ix) held ≡ true → ⊥
+abbrev pub RegisterImage : Index → List ℕ → Result Page ChipFault → Type 0
+RegisterImage ix held (Ok image) = said image ≡ register (record { birth = next_birth ix; held = held; label = label_of ix.label })
+RegisterImage ix held (Err fault) = rising 0 (next_birth ix) held ≡ true → ⊥
 
 -- It is the next register of an open store, and for the held numbers that are asked for there is one.
-abbrev pub NextRegister : Index → List ℕ → Page → Result (Unit {0}) ChipFault → Type 0
-NextRegister ix held image (Ok u) = (blocks per : ℕ) (pages : List Page) → CanChange blocks per pages ix → said image ≡ register (next_register pages held)
-NextRegister ix held image (Err fault) =
+abbrev pub NextRegister : Index → List ℕ → Result Page ChipFault → Type 0
+NextRegister ix held (Ok image) = (blocks per : ℕ) (pages : List Page) → CanChange blocks per pages ix → said image ≡ register (next_register pages held)
+NextRegister ix held (Err fault) =
     (blocks per : ℕ) (pages pages' : List Page) (ix' : Index) → CanChange blocks per pages ix → Registered blocks per pages ix held (Err fault) pages' ix'

@@ -5,27 +5,17 @@ ghost use Rattle.limits.specs.Values.{held_of};
 ghost use Rattle.tables.specs.Records.{unused};
 ghost use Rattle.noting.specs.Lookups.{page_in_state};
 ghost use Rattle.moving.specs.Sound.{lasting};
-ghost use Rattle.changing.specs.Back.{map_entry, is_between, entered, Rewound, Cuts, WasCut, unlinked, WentBack, GoesBack};
+ghost use Rattle.changing.specs.Back.{map_entry, entered, Rewound, Cuts, WasCut, unlinked, WentBack, GoesBack};
 
 use crate::register_image;
-use chip::{Chip, ChipFault, PAGE_BYTES, PageNumber};
+use chip::{Chip, ChipFault, PageNumber};
 use limits::Held;
 use noting::note_register;
 use room::{make_room, purge};
-use tables::{Index, Kind, MOST_PAGES, NO_PAGE, Record};
+use tables::{Index, NO_PAGE, Record};
 
 // The sectors that a store has.
 const SECTORS: usize = 2048;
-
-// Whether a record is of a version that was born at or before `number`, and after another birth.
-fn is_between(saved: Record, birth: u32, number: u32) -> bool
-    ensures { result ≡ is_between birth number saved }
-{
-    match saved.kind {
-        Kind::Data | Kind::Deletion => birth < saved.birth && saved.birth <= number,
-        Kind::Erased | Kind::Register => false,
-    }
-}
 
 // Puts a page into the map, where it has a version that was born at or before `number` and is younger
 // than what the map has for its sector. The record of no page has birth 0.
@@ -37,7 +27,7 @@ fn enter(ix: &Index, number: u32, page: usize, map: &mut [u16; SECTORS])
     let sector = saved.sector as usize;
     if sector < SECTORS {
         let former = ix.at(map[sector] as usize);
-        if is_between(saved, former.birth, number) {
+        if saved.is_born_within(former.birth, number) {
             map[sector] = page as u16;
         }
     }
@@ -86,12 +76,7 @@ fn unlink(saved: Record, number: u32) -> Record
     ensures { result ≡ unlinked number saved }
 {
     let link = if number < saved.link { 0 } else { saved.link };
-    Record {
-        birth: saved.birth,
-        link,
-        sector: saved.sector,
-        kind: saved.kind,
-    }
+    Record { link, ..saved }
 }
 
 // Takes the links to what was born after `number` from all records.
@@ -101,9 +86,8 @@ fn unlink_all(ix: &mut Index, number: u32)
     ensures spare { ix.new.spare ≡ ix.old.spare }
     ensures lasting { lasting ix.new ≡ lasting ix.old }
 {
-    for k in 0..MOST_PAGES {
-        let saved = ix.at(k);
-        ix.records[k] = unlink(saved, number);
+    for record in &mut ix.records {
+        *record = unlink(*record, number);
     }
 }
 
@@ -120,8 +104,7 @@ fn settle<C: Chip>(
     ensures same { C.Chip.blocks chip.new ≡ C.Chip.blocks chip.old }
     ensures back { (blocks per : ℕ) (pages : List Page) (old : Index) → WasCut blocks per pages old number held page.0 (C.Chip.pages chip.old) ix.old → WentBack blocks per pages old number (held_of held) result (C.Chip.pages chip.new) ix.new }
 {
-    let mut image = [0u8; PAGE_BYTES];
-    register_image(ix, held, &mut image)?;
+    let image = register_image(ix, held)?;
     chip.program(page, &image)?;
     note_register(ix, page, held);
     unlink_all(ix, number);

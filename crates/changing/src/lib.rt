@@ -1,4 +1,5 @@
 // Changes of an open store: each leaves it open, with a reading that is known.
+// Chip and index are lent apart: a struct of both would be made anew at each call, and could not say what stays.
 #![tactic(auto)]
 
 mod back;
@@ -7,7 +8,7 @@ mod format;
 ghost use Rattle.std.specs.Prelude.{◌≡◌, ◌+◌, min};
 ghost use Rattle.limits.specs.Values.{held_of};
 ghost use Rattle.readings.specs.Versions.{bytes, deleted};
-ghost use Rattle.keeping.specs.Opened.{Opened, no_limit};
+ghost use Rattle.keeping.specs.Opened.{Opened};
 ghost use Rattle.changing.specs.Changed.{Sweeps, Readies, NextVersion, Adds, AddsPage, RegisterImage, NextRegister, Registers, RegistersPage};
 
 pub use back::go_back;
@@ -23,22 +24,13 @@ use tables::{Index, VersionKind};
 // Above every birth.
 const NO_LIMIT: u32 = 4294967295;
 
-// Cleans the block with the most stale pages; versions born after `limit` are stale too.
-fn sweep<C: Chip>(chip: &mut C, ix: &mut Index, limit: u32) -> Result<usize, ChipFault>
-    ensures kept { C.Chip.kept chip.new ≡ C.Chip.kept chip.old }
-    ensures same { C.Chip.blocks chip.new ≡ C.Chip.blocks chip.old }
-    ensures cleans { limit ≡ no_limit → Opened (C.Chip.blocks chip.old) C.Chip.per (C.Chip.pages chip.old) ix.old → Sweeps (C.Chip.blocks chip.old) C.Chip.per (C.Chip.pages chip.old) result (C.Chip.pages chip.new) ix.new }
-{
-    clean_block(chip, ix, limit)
-}
-
 // Cleans the block with the most stale pages, and answers how many it had.
 pub fn clean<C: Chip>(chip: &mut C, ix: &mut Index) -> Result<usize, ChipFault>
     ensures kept { C.Chip.kept chip.new ≡ C.Chip.kept chip.old }
     ensures same { C.Chip.blocks chip.new ≡ C.Chip.blocks chip.old }
     ensures cleans { Opened (C.Chip.blocks chip.old) C.Chip.per (C.Chip.pages chip.old) ix.old → Sweeps (C.Chip.blocks chip.old) C.Chip.per (C.Chip.pages chip.old) result (C.Chip.pages chip.new) ix.new }
 {
-    sweep(chip, ix, NO_LIMIT)
+    clean_block(chip, ix, NO_LIMIT)
 }
 
 // An erased page for the next version or register.
@@ -122,15 +114,14 @@ pub fn add_deletion<C: Chip>(chip: &mut C, ix: &mut Index, sector: Sector) -> Re
 
 // The image of the next register, with these held numbers. There is none where they don't rise up to
 // the register's birth.
-fn register_image(ix: &Index, held: Held, image: &mut [u8; PAGE_BYTES]) -> Result<(), ChipFault>
-    ensures says { RegisterImage ix.now (held_of held) image.new result }
-    ensures next { NextRegister ix.now (held_of held) image.new result }
+fn register_image(ix: &Index, held: Held) -> Result<[u8; PAGE_BYTES], ChipFault>
+    ensures says { RegisterImage ix.now (held_of held) result }
+    ensures next { NextRegister ix.now (held_of held) result }
 {
-    let Some(register) = Register::new(next_birth(ix), held, ix.label) else {
-        return Err(ChipFault::NotErased);
-    };
-    write_register(&register, image);
-    Ok(())
+    let register = Register::new(next_birth(ix), held, ix.label).ok_or(ChipFault::NotErased)?;
+    let mut image = [0u8; PAGE_BYTES];
+    write_register(&register, &mut image);
+    Ok(image)
 }
 
 // Programs the image of a register with these held numbers, and notes it.
@@ -157,7 +148,6 @@ pub fn add_register<C: Chip>(chip: &mut C, ix: &mut Index, held: Held) -> Result
     ensures same { C.Chip.blocks chip.new ≡ C.Chip.blocks chip.old }
     ensures registers { Registers (C.Chip.blocks chip.old) C.Chip.per (C.Chip.pages chip.old) ix.old (held_of held) result (C.Chip.pages chip.new) ix.new }
 {
-    let mut image = [0u8; PAGE_BYTES];
-    register_image(ix, held, &mut image)?;
+    let image = register_image(ix, held)?;
     add_register_page(chip, ix, held, &image)
 }

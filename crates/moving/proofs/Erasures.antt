@@ -1,42 +1,34 @@
--- What an erase of a block leaves, page by page.
-use Rattle.std.proofs.Common.{◌≡◌, ℕ, ◌+◌, ◌-◌, ◌*◌, ◌<◌, ◌≤◌, List, [], ◌++◌, length, get_or, take, drop, replicate, refl, ap, ◌∙◌, inl, inr, arith, length-append, length-drop, length-take}
-use lib.ListN.{length-replicate}
-use Rattle.std.proofs.lemmas.List.{get_or_append_left, get_or-append_right, get_or-replicate, get_or-take, get_or-drop, length-take-le}
+-- A part of a list whose places all have one value: an erase of a block, page by page.
+use Rattle.std.proofs.Common.{◌≡◌, ℕ, ◌+◌, ◌*◌, ◌<◌, ◌≤◌, List, [], ◌++◌, length, get_or, take, drop, replicate, refl, ap, ◌∙◌, inl, inr, arith, rules}
+use Rattle.std.proofs.lemmas.List.{places}
 use Rattle.std.proofs.lemmas.Bool.{lt-ltb}
 use Rattle.chip.specs.Pages.{Page, erased_page, pages_erased}
 use Rattle.moving.specs.Moves.{Outside}
 use Rattle.moving.proofs.Places.{block_inside}
 
+module _ {A : Type 0} (xs : List A) (x d : A) (low n : ℕ) (h : low + n ≤ length xs) where
+  pub length_filled : length (take low xs ++ (replicate n x ++ drop (low + n) xs)) ≡ length xs
+  length_filled = search (rules, places)
+
+  pub filled_in : (i : ℕ) → i < n → get_or (take low xs ++ (replicate n x ++ drop (low + n) xs)) (low + i) d ≡ x
+  filled_in i l = grind (arith, places)
+
+  pub filled_out : (k : ℕ) → Outside low n k → get_or (take low xs ++ (replicate n x ++ drop (low + n) xs)) k d ≡ get_or xs k d
+  filled_out k (inl l) = grind (arith, places)
+  filled_out k (inr l) = grind (arith, places)
+
 module _ (per blocks : ℕ) (pages : List Page) (b : ℕ) (whole : length pages ≡ blocks * per) (h : b < blocks) where
-  abbrev low : ℕ
-  low = b * per
-
-  abbrev rest : List Page
-  rest = replicate per erased_page ++ drop (low + per) pages
-
-  inside : low + per ≤ length pages
+  inside : b * per + per ≤ length pages
   inside = block_inside per blocks b (length pages) whole h
 
-  is : pages_erased per blocks pages b ≡ take low pages ++ rest
+  is : pages_erased per blocks pages b ≡ take (b * per) pages ++ (replicate per erased_page ++ drop (b * per + per) pages)
   is = rw (lt-ltb b blocks h) refl
 
-  left : length (take low pages) ≡ low
-  left = length-take-le low pages (omega (arith, inside))
-
   pub length_erased : length (pages_erased per blocks pages b) ≡ length pages
-  length_erased = ap length is ∙ simp (length-append, length-replicate, length-take, length-drop) (omega (arith, inside))
+  length_erased = ap length is ∙ length_filled pages erased_page [] (b * per) per inside
 
-  pub erased_in : (i : ℕ) → i < per → get_or (pages_erased per blocks pages b) (low + i) [] ≡ erased_page
-  erased_in i l =
-      let e : low + i - low ≡ i = omega arith in
-      ap (λ z. get_or z (low + i) []) is ∙ get_or-append_right (take low pages) rest low (low + i) [] left (omega arith) ∙ ap (λ k. get_or rest k []) e
-      ∙ get_or_append_left (replicate per erased_page) (drop (low + per) pages) [] i (rw (length-replicate per erased_page) l) ∙ get_or-replicate per i erased_page [] l
+  pub erased_in : (i : ℕ) → i < per → get_or (pages_erased per blocks pages b) (b * per + i) [] ≡ erased_page
+  erased_in i l = ap (λ z. get_or z (b * per + i) []) is ∙ filled_in pages erased_page [] (b * per) per inside i l
 
-  pub erased_out : (k : ℕ) → Outside low per k → get_or (pages_erased per blocks pages b) k [] ≡ get_or pages k []
-  erased_out k (inl l) =
-      ap (λ z. get_or z k []) is ∙ get_or_append_left (take low pages) rest [] k (omega (arith, left)) ∙ get_or-take low pages k [] l
-  erased_out k (inr l) =
-      let e : low + per + (k - low - per) ≡ k = omega arith in
-      ap (λ z. get_or z k []) is ∙ get_or-append_right (take low pages) rest low k [] left (omega arith)
-      ∙ get_or-append_right (replicate per erased_page) (drop (low + per) pages) per (k - low) [] (length-replicate per erased_page) (omega arith)
-      ∙ get_or-drop (low + per) pages (k - low - per) [] ∙ ap (λ i. get_or pages i []) e
+  pub erased_out : (k : ℕ) → Outside (b * per) per k → get_or (pages_erased per blocks pages b) k [] ≡ get_or pages k []
+  erased_out k o = ap (λ z. get_or z k []) is ∙ filled_out pages erased_page [] (b * per) per inside k o

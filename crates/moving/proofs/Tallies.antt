@@ -1,7 +1,8 @@
 -- Counting pages by their numbers, and what stands among the sayings.
-use Rattle.std.proofs.Common.{◌≡◌, ℕ, zero, suc, ◌+◌, ◌-◌, ◌<◌, ◌≤◌, Bool, true, false, cond, List, [], ◌∷◌, ◌++◌, map, length, get_or, take, sym, refl, ap, ◌∙◌, subst, inl, inr, add-one, arith}
-use Rattle.std.proofs.lemmas.List.{take_more, take_all}
-use Rattle.std.proofs.lemmas.Bool.{cases_lt}
+use Rattle.std.proofs.Common.{◌≡◌, ℕ, zero, suc, ◌+◌, ◌-◌, ◌<◌, ◌≤◌, Bool, true, false, cond, List, [], ◌∷◌, length, get_or, sym, refl, ap, ◌∙◌, subst, inl, inr, add-one, arith}
+use Rattle.std.specs.List.{range_with_len}
+use Rattle.std.proofs.lemmas.List.FromFn.{length-range_with_len, get_or-range_with_len}
+use Rattle.std.proofs.lemmas.List.Sums.{get_or-le-sum_by, sum_by-cons}
 use Rattle.chip.specs.Pages.{Page}
 use Rattle.readings.specs.Versions.{put, keep}
 use Rattle.readings.specs.Sorted.{In}
@@ -9,66 +10,55 @@ use Rattle.readings.specs.Sayings.{Saying, said, sayings}
 use Rattle.moving.specs.Kept.{tally}
 use Rattle.moving.specs.Moves.{Outside}
 
-module _ (p : ℕ → Bool) (from : ℕ) where
-  pub tally_none : tally p from 0 ≡ 0
-  unfolding tally
-  tally_none = refl
+tally_cons : (p : ℕ → Bool) (from n : ℕ) → tally p from (suc n) ≡ cond (p from) 1 0 + tally p (from + 1) n
+tally_cons p from n = sum_by-cons (λ x. cond (p x) 1 0) from (range_with_len (from + 1) n)
 
-  pub tally_more : (i : ℕ) → p (from + i) ≡ true → tally p from (i + 1) ≡ tally p from i + 1
-  unfolding tally
-  tally_more i t = rw (add-one i, t) (sym (add-one (tally p from i)))
+-- A tally of 0 says that none passes.
+pub tally_zero : (p : ℕ → Bool) (from n : ℕ) → tally p from n ≡ 0 → (i : ℕ) → i < n → p (from + i) ≡ false
+tally_zero p from n e i h =
+    let l = get_or-le-sum_by (λ x. cond (p x) 1 0) (range_with_len from n) i 0 (rw (length-range_with_len from n) h) in
+    let a = get_or-range_with_len from n i 0 h in
+    go (p (from + i)) (rw a at l) e
+  where
+    go : (b : Bool) → cond b 1 0 ≤ tally p from n → tally p from n ≡ 0 → b ≡ false
+    go true l e = absurd (omega arith)
+    go false l e = refl
 
-  pub tally_same : (i : ℕ) → p (from + i) ≡ false → tally p from (i + 1) ≡ tally p from i
-  unfolding tally
-  tally_same i t = rw (add-one, t) refl
-
-  -- A tally of 0 says that none passes.
-  pub tally_zero : (n : ℕ) → tally p from n ≡ 0 → (i : ℕ) → i < n → p (from + i) ≡ false
-  unfolding tally
-  tally_zero zero e i h = absurd (omega arith)
-  tally_zero (suc n) e i h = go (p (from + n)) refl e (tally_zero n)
-    where
-      go : (b : Bool) → p (from + n) ≡ b → cond b (suc (tally p from n)) (tally p from n) ≡ 0 → (tally p from n ≡ 0 → (i : ℕ) → i < n → p (from + i) ≡ false) → p (from + i) ≡ false
-      go true f z ih = absurd (omega arith)
-      go false f z ih = elim (cases_lt i n) [ inl l ↦ ih z i l | inr l ↦ let q : i ≡ n = omega arith in ap (λ k. p (from + k)) q ∙ f ]
-
-  -- Any other says that one does.
-  pub tally_some : (n : ℕ) → 0 < tally p from n → (i : ℕ) × (i < n) × (p (from + i) ≡ true)
-  unfolding tally
-  tally_some zero h = absurd (omega arith)
-  tally_some (suc n) h = go (p (from + n)) refl h (tally_some n)
-    where
-      go : (b : Bool) → p (from + n) ≡ b → 0 < cond b (suc (tally p from n)) (tally p from n) → (0 < tally p from n → (i : ℕ) × (i < n) × (p (from + i) ≡ true)) →
-          (i : ℕ) × (i < suc n) × (p (from + i) ≡ true)
-      go true f z ih = (n, omega arith, f)
-      go false f z ih = let r = ih z in (r.0, let l = r.1 in omega arith, r.2)
-
-  pub tally_all : (n : ℕ) → ((k : ℕ) → from ≤ k → k < from + n → p k ≡ true) → tally p from n ≡ n
-  unfolding tally
-  tally_all zero h = refl
-  tally_all (suc n) h = rw (h (from + n) (omega arith) (omega arith)) (ap suc (tally_all n (λ k a b. h k a (omega arith))))
-
-  pub tally_split : (a b : ℕ) → tally p from (a + b) ≡ tally p from a + tally p (from + a) b
-  unfolding tally
-  tally_split a zero = let e : a + 0 ≡ a = omega arith in rw e (omega arith)
-  tally_split a (suc b) =
-      let e : a + suc b ≡ suc (a + b) = omega arith in
-      let f : from + a + b ≡ from + (a + b) = omega arith in
-      rw (e, f) (go (p (from + (a + b))) (tally_split a b))
-    where
-      go : (t : Bool) → tally p from (a + b) ≡ tally p from a + tally p (from + a) b → cond t (suc (tally p from (a + b))) (tally p from (a + b)) ≡ tally p from a + cond t (suc (tally p (from + a) b)) (tally p (from + a) b)
-      go true ih = omega arith
-      go false ih = ih
+-- Any other says that one does.
+pub tally_some : (p : ℕ → Bool) (from n : ℕ) → 0 < tally p from n → (i : ℕ) × (i < n) × (p (from + i) ≡ true)
+tally_some p from zero h = absurd (omega arith)
+tally_some p from (suc n) h = go (p from) refl (rw tally_cons at h) (tally_some p (from + 1) n)
+  where
+    go : (b : Bool) → p from ≡ b → 0 < cond b 1 0 + tally p (from + 1) n → (0 < tally p (from + 1) n → (i : ℕ) × (i < n) × (p (from + 1 + i) ≡ true)) →
+        (i : ℕ) × (i < suc n) × (p (from + i) ≡ true)
+    go true f z ih = (0, omega arith, let e : from + 0 ≡ from = omega arith in ap p e ∙ f)
+    go false f z ih = let r = ih (omega arith) in (r.0 + 1, let l = r.1 in omega arith, let e : from + (r.0 + 1) ≡ from + 1 + r.0 = omega arith in ap p e ∙ r.2)
 
 pub tally_ext : (p q : ℕ → Bool) (from n : ℕ) → ((k : ℕ) → from ≤ k → k < from + n → p k ≡ q k) → tally p from n ≡ tally q from n
-unfolding tally
 tally_ext p q from zero h = refl
-tally_ext p q from (suc n) h = rw (h (from + n) (omega arith) (omega arith), tally_ext p q from n (λ k a b. h k a (omega arith))) refl
+tally_ext p q from (suc n) h =
+    tally_cons p from n ∙ rw (h from (omega arith) (omega arith), tally_ext p q (from + 1) n (λ k a b. h k (omega arith) (omega arith))) (sym (tally_cons q from n))
 
 pub tally_nil : (p : ℕ → Bool) (from n : ℕ) → ((k : ℕ) → from ≤ k → k < from + n → p k ≡ false) → tally p from n ≡ 0
-unfolding tally
 tally_nil p from zero h = refl
-tally_nil p from (suc n) h = rw (h (from + n) (omega arith) (omega arith)) (tally_nil p from n (λ k a b. h k a (omega arith)))
+tally_nil p from (suc n) h = tally_cons p from n ∙ rw (h from (omega arith) (omega arith), tally_nil p (from + 1) n (λ k a b. h k (omega arith) (omega arith))) refl
+
+pub tally_all : (p : ℕ → Bool) (from n : ℕ) → ((k : ℕ) → from ≤ k → k < from + n → p k ≡ true) → tally p from n ≡ n
+tally_all p from zero h = refl
+tally_all p from (suc n) h = tally_cons p from n ∙ rw (h from (omega arith) (omega arith), tally_all p (from + 1) n (λ k a b. h k (omega arith) (omega arith))) (omega arith)
+
+tally_split : (p : ℕ → Bool) (from a b : ℕ) → tally p from (a + b) ≡ tally p from a + tally p (from + a) b
+tally_split p from zero b =
+    let e : from + 0 ≡ from = omega arith in
+    let f : 0 + b ≡ b = omega arith in
+    rw (e, f) (omega arith)
+tally_split p from (suc a) b =
+    let e : suc a + b ≡ suc (a + b) = omega arith in
+    let f : from + suc a ≡ from + 1 + a = omega arith in
+    let ih = tally_split p (from + 1) a b in
+    let x = tally_cons p from (a + b) in
+    let y = tally_cons p from a in
+    rw (e, f) (omega arith)
 
 -- Before a part, in it and behind it.
 pub tally_parts : (p : ℕ → Bool) (n low per : ℕ) → low + per ≤ n → tally p 0 n ≡ tally p 0 low + tally p low per + tally p (low + per) (n - (low + per))
@@ -94,43 +84,21 @@ tally_lost p q n low per h same gone =
     omega arith
 
 -- Counting a list by its places.
-keep_push : {A : Type 0} (p : A → Bool) (xs : List A) (y : A) → length (keep p (xs ++ y ∷ [])) ≡ cond (p y) (suc (length (keep p xs))) (length (keep p xs))
-unfolding keep
-keep_push p [] y = go (p y)
-  where
-    go : (b : Bool) → length (put b y []) ≡ cond b 1 0
-    go true = refl
-    go false = refl
-keep_push p (x ∷ xs) y = go (p x) (p y) (keep_push p xs y)
-  where
-    go : (b t : Bool) → length (keep p (xs ++ y ∷ [])) ≡ cond t (suc (length (keep p xs))) (length (keep p xs)) → length (put b x (keep p (xs ++ y ∷ []))) ≡ cond t (suc (length (put b x (keep p xs)))) (length (put b x (keep p xs)))
-    go true true e = ap suc e
-    go true false e = ap suc e
-    go false true e = e
-    go false false e = e
-
-keep_map : {A B : Type 0} (p : B → Bool) (f : A → B) (xs : List A) → length (keep (λ x. p (f x)) xs) ≡ length (keep p (map f xs))
-unfolding keep
-keep_map p f [] = refl
-keep_map p f (x ∷ xs) = go (p (f x)) (keep_map p f xs)
-  where
-    go : (b : Bool) → length (keep (λ y. p (f y)) xs) ≡ length (keep p (map f xs)) → length (put b x (keep (λ y. p (f y)) xs)) ≡ length (put b (f x) (keep p (map f xs)))
-    go true e = ap suc e
-    go false e = e
-
-tally_list : {A : Type 0} (p : A → Bool) (xs : List A) (d : A) (n : ℕ) → n ≤ length xs → tally (λ k. p (get_or xs k d)) 0 n ≡ length (keep p (take n xs))
-unfolding tally keep
-tally_list p xs d zero h = refl
-tally_list p xs d (suc n) h =
-    let ih = tally_list p xs d n (omega arith) in
-    let m : take (suc n) xs ≡ take n xs ++ get_or xs n d ∷ [] = subst (λ k. take k xs ≡ take n xs ++ get_or xs n d ∷ []) (let e : n + 1 ≡ suc n = omega arith in e) (take_more xs n d (omega arith)) in
-    let z : 0 + n ≡ n = omega arith in
-    rw (m, keep_push p (take n xs) (get_or xs n d), z, ih) refl
+tally_next : (p : ℕ → Bool) (from n : ℕ) → tally p (from + 1) n ≡ tally (λ k. p (k + 1)) from n
+tally_next p from zero = refl
+tally_next p from (suc n) = tally_cons p (from + 1) n ∙ ap (λ m. cond (p (from + 1)) 1 0 + m) (tally_next p (from + 1) n) ∙ sym (tally_cons (λ k. p (k + 1)) from n)
 
 pub count_said : (p : Saying → Bool) (pages : List Page) → length (keep p (sayings pages)) ≡ tally (λ k. p (said (get_or pages k []))) 0 (length pages)
-count_said p pages =
-    let q : Page → Bool = λ x. p (said x) in
-    sym (keep_map p said pages) ∙ ap (λ xs. length (keep q xs)) (sym (take_all (length pages) pages (omega arith))) ∙ sym (tally_list q pages [] (length pages) (omega arith))
+unfolding keep
+count_said p [] = refl
+count_said p (x ∷ xs) =
+    go (p (said x)) (count_said p xs
+    ∙ sym (tally_next (λ k. p (said (get_or (x ∷ xs) k []))) 0 (length xs) ∙ tally_ext _ (λ k. p (said (get_or xs k []))) 0 (length xs) (λ k _ _. ap (λ j. p (said (get_or (x ∷ xs) j []))) (add-one k))))
+    ∙ sym (tally_cons (λ k. p (said (get_or (x ∷ xs) k []))) 0 (length xs))
+  where
+    go : {n : ℕ} (b : Bool) → length (keep p (sayings xs)) ≡ n → length (put b (said x) (keep p (sayings xs))) ≡ cond b 1 0 + n
+    go true e = omega arith
+    go false e = e ∙ omega arith
 
 -- What a page says stands among the sayings, and what stands there is said by a page.
 pub at_in : (pages : List Page) (k : ℕ) → k < length pages → In (said (get_or pages k [])) (sayings pages)

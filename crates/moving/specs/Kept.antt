@@ -1,5 +1,6 @@
 -- What steps keep of what the pages say.
-use Rattle.std.specs.Prelude.{◌≡◌, ℕ, zero, suc, ◌+◌, Bool, true, cond, not, ◌&&◌, List, [], length, slice_index_or}
+use Rattle.std.specs.Prelude.{◌≡◌, ℕ, Bool, true, not, ◌&&◌, List, [], length, count_by, slice_index_or}
+use Rattle.std.specs.List.{range_with_len}
 use Rattle.chip.specs.Pages.{Page}
 use Rattle.readings.specs.Versions.{keep}
 use Rattle.readings.specs.Sorted.{In}
@@ -22,9 +23,8 @@ abbrev pub all_stale : (Saying → Bool) → List Page → ℕ
 all_stale stay pages = length (keep (stale stay) (sayings pages))
 
 -- Of the n numbers from `from` on, how many pass a test.
-unfoldable pub tally : (ℕ → Bool) → ℕ → ℕ → ℕ
-tally p from zero = 0
-tally p from (suc n) = cond (p (from + n)) (suc (tally p from n)) (tally p from n)
+abbrev pub tally : (ℕ → Bool) → ℕ → ℕ → ℕ
+tally p from n = count_by p (range_with_len from n)
 
 -- Of the n pages from `from` on, how many are stale.
 abbrev pub stale_in : (Saying → Bool) → List Page → ℕ → ℕ → ℕ

@@ -1,34 +1,23 @@
 // Moving pages: what is to stay of a block goes to the spare block, and the block is erased.
+// Chip and index are lent apart: a struct of both would be made anew at each call, and could not say what stays.
 #![tactic(auto)]
 
-ghost use Rattle.std.specs.Prelude.{◌≡◌, ℕ, ◌+◌, ◌<◌, ◌≤◌, ◌&&◌, nat_le, nat_lt, slice_index_or};
-ghost use Rattle.readings.specs.Versions.{any};
+ghost use Rattle.std.specs.Prelude.{◌≡◌, ℕ, ◌+◌, ◌<◌, ◌≤◌, slice_index_or};
 ghost use Rattle.readings.specs.Links.{stays_by};
 ghost use Rattle.tables.specs.Records.{unused};
 ghost use Rattle.moving.specs.Sound.{page_stays, lasting};
 ghost use Rattle.moving.specs.Moves.{redirected, Movable, Moved, Copies, Relocates, forgotten_at};
 
 use chip::{BlockNumber, Chip, ChipFault, PAGE_BYTES, PageNumber};
-use tables::{Index, Kind, unused_record};
+use tables::{Index, Kind, Record, is_held_between, unused_record};
 
-// Whether a held number is at or after `birth` and before `link`.
-fn is_held_between(held: &[u32], birth: u32, link: u32) -> bool
-    ensures { result ≡ any (λ h. nat_le birth h && nat_lt h link) held.now }
+fn version_stays(record: Record, held: &[u32], limit: u32) -> bool
+    ensures { result ≡ stays_by held.now limit record.birth record.link }
 {
-    for i in 0..held.len() {
-        let h = held[i];
-        if birth <= h && h < link {
-            return true;
-        }
-    }
-    false
-}
-
-fn version_stays(held: &[u32], limit: u32, birth: u32, link: u32) -> bool
-    ensures { result ≡ stays_by held.now limit birth link }
-{
-    let held_between = is_held_between(held, birth, link);
-    birth <= limit && (link == 0 || limit < link || held_between)
+    record.birth <= limit
+        && (record.link == 0
+            || limit < record.link
+            || is_held_between(held, record.birth, u64::from(record.link)))
 }
 
 // Whether what the page says is to stay: a version that the present or a held number up to the limit
@@ -39,9 +28,7 @@ pub fn page_stays(ix: &Index, page: usize, limit: u32) -> bool
     let record = ix.at(page);
     match record.kind {
         Kind::Erased => false,
-        Kind::Data | Kind::Deletion => {
-            version_stays(ix.held.as_slice(), limit, record.birth, record.link)
-        }
+        Kind::Data | Kind::Deletion => version_stays(record, ix.held.as_slice(), limit),
         Kind::Register => record.birth == ix.newest,
     }
 }
@@ -109,9 +96,7 @@ fn forget(ix: &mut Index, from: usize, n: usize)
     ensures map { ix.new.map ≡ ix.old.map }
     ensures lasting { lasting ix.new ≡ lasting ix.old }
 {
-    for i in 0..n {
-        ix.put(from + i, unused_record());
-    }
+    ix.records[from..from + n].fill(unused_record());
 }
 
 // Cleans a block: what is to stay of it goes to the spare block, and it is erased and the spare block

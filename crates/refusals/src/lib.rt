@@ -7,6 +7,7 @@ ghost use Rattle.refusals.specs.declared.types.Refusal.TheVariants as refusal;
 
 pub mod types;
 
+use chip::ChipFault;
 use scan::BadPage;
 pub use types::Refusal;
 
@@ -39,5 +40,14 @@ impl From<BadPage> for Refusal {
             page: bad.page,
             cause: bad.cause,
         }
+    }
+}
+
+// A chip that refuses what a store asks of it holds no store. (That of an open store refuses nothing.)
+impl From<ChipFault> for Refusal {
+    ghost from_gives = { λ _ r. r ≡ refusal.NotAStore };
+
+    fn from(_: ChipFault) -> Refusal {
+        Self::NotAStore
     }
 }

@@ -1,5 +1,6 @@
 -- An erased page, a block to clean, and versions born after a limit, by the records.
-use Rattle.std.specs.Prelude.{◌≡◌, ℕ, ◌+◌, ◌-◌, ◌*◌, ◌<◌, ◌≤◌, Bool, true, false, not, ◌&&◌, ◌⊎◌, List, [], length, get_or, Some, None, Ok, Err, Option, Result, ◌≢◌, nat_lt, slice_index_or}
+use Rattle.std.specs.Prelude.{◌≡◌, ℕ, ◌+◌, ◌-◌, ◌*◌, ◌/◌, ◌<◌, ◌≤◌, Bool, true, false, not, ◌&&◌, ◌⊎◌, List, [], length, get_or, Some, None, Ok, Err, Option, Result, ◌==◌, ◌≢◌, nat_lt, slice_index_or, map, find}
+use Rattle.std.specs.List.{range_with_len}
 use Rattle.chip.specs.declared.BlockNumber.{BlockNumber}
 use Rattle.chip.specs.declared.PageNumber.{PageNumber}
 use Rattle.chip.specs.declared.ChipFault.{ChipFault}
@@ -46,6 +47,14 @@ Best ix limit per n most None = most ≡ 0
 abbrev pub Found : Index → ℕ → Option PageNumber → Type 0
 Found ix per (Some p) = (p.0 < ix.pages) × Outside (ix.spare.0 * per) per p.0 × (page_free ix p.0 ≡ true)
 Found ix per None = (k : ℕ) → k < ix.pages → Outside (ix.spare.0 * per) per k → page_free ix k ≡ false
+
+-- The page is erased and outside the spare block.
+abbrev pub is_open : Index → ℕ → PageNumber → Bool
+is_open ix per p = not (p.0 / per == ix.spare.0) && page_free ix p.0
+
+-- The first such page.
+abbrev pub first_free : Index → ℕ → Option PageNumber
+first_free ix per = find (is_open ix per) (map (λ p. record { 0 = p }) (range_with_len 0 ix.pages))
 
 -- A version born after the limit.
 abbrev pub is_later : ℕ → Saying → Bool

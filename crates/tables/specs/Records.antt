@@ -42,6 +42,10 @@ is_needed held r = is_version r.kind && needed_by held r.birth r.link
 abbrev pub needed_count : List ℕ → List Record → ℕ
 needed_count held rs = count_by (is_needed held) rs
 
+-- It is of a version born after one number, and at or before another.
+abbrev pub is_born_within : ℕ → ℕ → Record → Bool
+is_born_within after upto r = is_version r.kind && (nat_lt after r.birth && nat_le r.birth upto)
+
 -- The record says what the page says; there is none for a bad page.
 abbrev pub Agrees : Saying → Record → Type 0
 Agrees nothing r = r.kind ≡ kind.Erased

@@ -2,7 +2,7 @@
 #![tactic(auto)]
 
 ghost use Rattle.std.specs.Prelude.{◌≡◌, ◌≤◌, length, slice_index_or, slice_set};
-ghost use Rattle.tables.specs.Records.{is_version, version_kind, held_between, is_needed, needed_count, unused, rest_of};
+ghost use Rattle.tables.specs.Records.{is_version, version_kind, held_between, is_needed, needed_count, is_born_within, unused, rest_of};
 
 pub mod index;
 pub mod types;
@@ -44,6 +44,13 @@ impl Record {
     {
         self.kind.is_version()
             && (self.link == 0 || is_held_between(held, self.birth, u64::from(self.link)))
+    }
+
+    // Whether it is of a version born after one number, and at or before another.
+    pub fn is_born_within(self, after: u32, upto: u32) -> bool
+        ensures { result ≡ is_born_within after upto self }
+    {
+        self.kind.is_version() && after < self.birth && self.birth <= upto
     }
 }
 

@@ -4,7 +4,7 @@ use Rattle.tables.specs.declared.index.Index.{Index}
 use Rattle.tables.specs.Records.{unused}
 use Rattle.moving.specs.Sound.{page_stays, record_stays, Lasting, lasting}
 use Rattle.moving.specs.Moves.{Copied}
-use Rattle.moving.proofs.Copies.{not_both, copied_none, movable, record_there, copied_more, copied_left}
+use Rattle.moving.proofs.Copies.{not_both, movable, record_there, copied_more, copied_left}
 use Rattle.moving.proofs.copy_staying.Goals as goal
 use Rattle.moving.proofs.copy_staying.Goals.{then-page_stays+in_ok-move_page, else-page_stays}
 
@@ -14,25 +14,16 @@ decides ix ix' limit k e f =
     ap (λ (l : Lasting). record_stays (held_of l.held) l.newest limit (get_or ix'.records k unused)) e
     ∙ ap (record_stays (held_of ix.held) ix.newest limit) f
 
-pub loop-i-init : goal.loop-i-init
-loop-i-init g c =
-    (refl, refl, refl, λ link last_birth p. copied_none (page_stays c.args.ix.now c.args.limit) c.args.from c.args.to (g.C.Chip.pages c.args.chip.now) c.args.ix.now)
-
-pub returns-in_err-move_page : goal.returns-in_err-move_page
-returns-in_err-move_page g c =
+pub returns-in_err-move_page-clause-copied : goal.returns-in_err-move_page-clause-copied
+returns-in_err-move_page-clause-copied g c =
     let m = g.C.Chip in
     let inv = c.loop-i.invariant in
     let e = c.move_page.ensures in
     let per_is = c.block_pages-per.ensures in
     let h : c.loop-i.i < m.per = omega arith in
-    record {
-      kept = e.kept ∙ inv.0;
-      same = e.same ∙ inv.1;
-      lasting = e.lasting ∙ inv.2;
-      copied = λ link last_birth p.
-          let ok = (e.moved (movable (m.blocks c.args.chip.now) m.per (m.pages c.args.chip.now) c.args.ix.now link last_birth c.args.limit c.args.from c.args.to p c.loop-i.i h (m.pages c.loop-i.chip) c.loop-i.ix (inv.3 link last_birth p))).ok in
-          absurd (not_both c.move_page.result c.in_err-move_page.field-0.0 c.in_err-move_page.was ok);
-    }
+    λ link last_birth p.
+    let ok = (e.moved (movable (m.blocks c.args.chip.now) m.per (m.pages c.args.chip.now) c.args.ix.now link last_birth c.args.limit c.args.from c.args.to p c.loop-i.i h (m.pages c.loop-i.chip) c.loop-i.ix (inv.3 link last_birth p))).ok in
+    absurd (not_both c.move_page.result c.in_err-move_page.field-0.0 c.in_err-move_page.was ok)
 
 pub loop-i-preserved : goal.loop-i-preserved
 loop-i-preserved g c =
@@ -74,16 +65,10 @@ loop-i-preserved g c =
       )
     ]
 
-pub returns : goal.returns
-returns g c =
+pub returns-clause-copied : goal.returns-clause-copied
+returns-clause-copied g c =
     let m = g.C.Chip in
     let inv = c.loop-i.invariant in
-    let per_is = c.block_pages-per.ensures in
     let end : c.loop-i.i ≡ m.per = omega arith in
-    record {
-      kept = inv.0;
-      same = inv.1;
-      lasting = inv.2;
-      copied = λ link last_birth p.
-          (refl, subst (λ n. Copied (page_stays c.args.ix.now c.args.limit) c.args.from c.args.to n (m.pages c.args.chip.now) c.args.ix.now (m.pages c.loop-i.chip) c.loop-i.ix) end (inv.3 link last_birth p));
-    }
+    λ link last_birth p.
+    (refl, subst (λ n. Copied (page_stays c.args.ix.now c.args.limit) c.args.from c.args.to n (m.pages c.args.chip.now) c.args.ix.now (m.pages c.loop-i.chip) c.loop-i.ix) end (inv.3 link last_birth p))

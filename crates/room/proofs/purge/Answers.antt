@@ -1,5 +1,8 @@
-use Rattle.std.proofs.Common.{◌≡◌, ℕ, ◌+◌, ◌*◌, ◌<◌, ◌≤◌, Bool, true, false, [], length, get_or, MatchBool, sym, refl, ap, ◌∙◌, subst, arith}
-use Rattle.std.proofs.lemmas.Bool.Decides.{when_true, when_false}
+use Rattle.std.proofs.Common.{◌≡◌, ℕ, ◌+◌, ◌*◌, ◌<◌, ◌≤◌, Bool, true, false, [], length, get_or, inl, inr, sym, refl, ap, ◌∙◌, subst, arith}
+use Rattle.std.specs.List.{list_any, range_with_len}
+use Rattle.std.proofs.lemmas.Bool.{both_ways, cases_Bool}
+use Rattle.std.proofs.lemmas.List.Folds.{Any-from_list_any, list_any_at}
+use Rattle.std.proofs.lemmas.List.FromFn.{length-range_with_len, get_or-range_with_len}
 use Rattle.tables.specs.declared.index.Index.{Index}
 use Rattle.readings.specs.Sayings.{said}
 use Rattle.moving.specs.Sound.{Sound, LastStay, staying, lasting}
@@ -12,19 +15,28 @@ use Rattle.room.proofs.Purges.{not_spare, none_here, none_left, none_none}
 use Rattle.room.proofs.purge.Goals as goal
 use Rattle.room.proofs.purge.Goals.{then-has_later+in_ok-relocate, else-has_later}
 
--- Whether a block has a version born after the limit.
-abbrev Looked : ℕ → Index → ℕ → ℕ → Bool → Type 0
-Looked per ix limit b r =
-    MatchBool r ((i : ℕ) × (i < per) × (page_later ix limit (b * per + i) ≡ true)) ((i : ℕ) → i < per → page_later ix limit (b * per + i) ≡ false)
-
 abbrev Has : ℕ → Index → ℕ → ℕ → Type 0
 Has per ix limit b = (i : ℕ) × (i < per) × (page_later ix limit (b * per + i) ≡ true)
 
 abbrev HasNone : ℕ → Index → ℕ → ℕ → Type 0
 HasNone per ix limit b = (i : ℕ) → i < per → page_later ix limit (b * per + i) ≡ false
 
-pub returns-in_err-relocate : goal.returns-in_err-relocate
-returns-in_err-relocate g c =
+some_later : (per : ℕ) (ix : Index) (limit b : ℕ) (r : Bool) → r ≡ list_any (page_later ix limit) (range_with_len (b * per) per) → r ≡ true → Has per ix limit b
+some_later per ix limit b r e t =
+    let a = Any-from_list_any (page_later ix limit) (range_with_len (b * per) per) (sym e ∙ t) in
+    let l : a.0 < per = subst (λ n. a.0 < n) (length-range_with_len (b * per) per) a.2 in
+    (a.0, l, ap (page_later ix limit) (sym (get_or-range_with_len (b * per) per a.0 a.1 l) ∙ a.3) ∙ a.4)
+
+none_later : (per : ℕ) (ix : Index) (limit b : ℕ) (r : Bool) → r ≡ list_any (page_later ix limit) (range_with_len (b * per) per) → r ≡ false → HasNone per ix limit b
+none_later per ix limit b r e t i l = elim (cases_Bool (page_later ix limit (b * per + i))) [
+  | inr f ↦ f
+  | inl f ↦
+      absurd (both_ways r t (e ∙ list_any_at (page_later ix limit) (range_with_len (b * per) per) i 0 (rw (length-range_with_len (b * per) per) l)
+      (ap (page_later ix limit) (get_or-range_with_len (b * per) per i 0 l) ∙ f)))
+]
+
+pub returns-in_err-relocate-clause-purged : goal.returns-in_err-relocate-clause-purged
+returns-in_err-relocate-clause-purged g c =
     let m = g.C.Chip in
     let inv = c.loop-b.invariant in
     let e = c.relocate.ensures in
@@ -32,21 +44,14 @@ returns-in_err-relocate g c =
     let ix = c.loop-b.ix in
     let b = c.loop-b.b in
     let limit = c.args.limit in
-    let size = c.size-blocks.ensures in
-    let looked : Looked m.per ix limit b c.has_later.result = subst (λ n. Looked n ix limit b c.has_later.result) c.block_pages-per.ensures c.has_later.ensures in
-    let here : Has m.per ix limit b = when_true (Has m.per ix limit b) (HasNone m.per ix limit b) c.if-has_later.true looked in
-    record {
-      kept = e.kept ∙ inv.0;
-      same = e.same ∙ inv.1;
-      lasting = e.lasting ∙ inv.2;
-      purged = λ link last_birth sound last.
-          let turn = inv.3 link last_birth sound last in
-          let now-sound : Sound (m.blocks chip) m.per (m.pages chip) ix link last_birth = subst (λ n. Sound n m.per (m.pages chip) ix link last_birth) (sym inv.1) turn.0 in
-          let first : b < m.blocks chip = let t = c.loop-b-test.true in let q = inv.1 in omega arith in
-          let done = e.done link last_birth now-sound (last_stay_same c.args.ix.now ix link limit inv.2 last_birth last) first
-          (not_spare (m.blocks chip) m.per (m.pages chip) ix link last_birth limit now-sound b first here.0 here.1 here.2) in
-          absurd (not_both c.relocate.result c.in_err-relocate.field-0.0 c.in_err-relocate.was done.ok);
-    }
+    let here : Has m.per ix limit b = some_later m.per ix limit b c.has_later.result c.has_later.ensures c.if-has_later.true in
+    λ link last_birth sound last.
+    let turn = inv.3 link last_birth sound last in
+    let now-sound : Sound (m.blocks chip) m.per (m.pages chip) ix link last_birth = subst (λ n. Sound n m.per (m.pages chip) ix link last_birth) (sym inv.1) turn.0 in
+    let first : b < m.blocks chip = let t = c.loop-b-test.true in let q = inv.1 in omega arith in
+    let done = e.done link last_birth now-sound (last_stay_same c.args.ix.now ix link limit inv.2 last_birth last) first
+    (not_spare (m.blocks chip) m.per (m.pages chip) ix link last_birth limit now-sound b first here.0 here.1 here.2) in
+    absurd (not_both c.relocate.result c.in_err-relocate.field-0.0 c.in_err-relocate.was done.ok)
 
 pub loop-b-preserved : goal.loop-b-preserved
 loop-b-preserved g c =
@@ -62,13 +67,12 @@ loop-b-preserved g c =
     let size = c.size-blocks.ensures in
     let first : b < blocks = let t = c.loop-b-test.true in omega arith in
     let more : b + 1 ≤ c.size-blocks.result = let t = c.loop-b-test.true in omega arith in
-    let looked : Looked m.per ix limit b c.has_later.result = subst (λ n. Looked n ix limit b c.has_later.result) c.block_pages-per.ensures c.has_later.ensures in
     elim c.if-has_later.branch [
       | then-has_later+in_ok-relocate w ↦
           let e = w.relocate.ensures in
           let pages' = m.pages w.relocate.new.chip in
           let ix' = w.relocate.new.ix in
-          let here : Has m.per ix limit b = when_true (Has m.per ix limit b) (HasNone m.per ix limit b) w.if-has_later.true looked in (
+          let here : Has m.per ix limit b = some_later m.per ix limit b c.has_later.result c.has_later.ensures w.if-has_later.true in (
             ap m.kept w.chip-is ∙ e.kept ∙ inv.0,
             ap m.blocks w.chip-is ∙ e.same ∙ inv.1,
             ap lasting w.ix-is ∙ e.lasting ∙ inv.2,
@@ -87,7 +91,7 @@ loop-b-preserved g c =
             more,
           )
       | else-has_later w ↦
-          let here : HasNone m.per ix limit b = when_false (Has m.per ix limit b) (HasNone m.per ix limit b) w.if-has_later.false looked in (
+          let here : HasNone m.per ix limit b = none_later m.per ix limit b c.has_later.result c.has_later.ensures w.if-has_later.false in (
             ap m.kept w.chip-is ∙ inv.0,
             ap m.blocks w.chip-is ∙ inv.1,
             ap lasting w.ix-is ∙ inv.2,
@@ -98,25 +102,19 @@ loop-b-preserved g c =
           )
     ]
 
-pub returns : goal.returns
-returns g c =
+pub returns-clause-purged : goal.returns-clause-purged
+returns-clause-purged g c =
     let m = g.C.Chip in
     let inv = c.loop-b.invariant in
     let chip = c.loop-b.chip in
-    let size = c.size-blocks.ensures in
     let end : c.loop-b.b ≡ m.blocks c.args.chip.now = let t = c.loop-b-test.false in let k = inv.4 in omega arith in
+    λ link last_birth sound last.
+    let turn = inv.3 link last_birth sound last in
+    let all : c.loop-b.b * m.per ≡ length (m.pages chip) = ap (λ b. b * m.per) end ∙ sym turn.0.whole in
     record {
-      kept = inv.0;
-      same = inv.1;
-      lasting = inv.2;
-      purged = λ link last_birth sound last.
-          let turn = inv.3 link last_birth sound last in
-          let all : c.loop-b.b * m.per ≡ length (m.pages chip) = ap (λ b. b * m.per) end ∙ sym turn.0.whole in
-          record {
-            ok = refl;
-            sound = turn.0;
-            kept = turn.1;
-            none_later = λ k h. turn.2 k (omega arith);
-            still = λ none. let s = turn.3 none in (ap m.pages s.0, s.1);
-          };
+      ok = refl;
+      sound = turn.0;
+      kept = turn.1;
+      none_later = λ k h. turn.2 k (omega arith);
+      still = λ none. let s = turn.3 none in (ap m.pages s.0, s.1);
     }

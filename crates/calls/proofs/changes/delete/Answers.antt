@@ -15,53 +15,37 @@ use Rattle.calls.proofs.changes.delete.Goals as goal
 here : (r : Reading) (n s : ℕ) (b : Bool) → n ≡ s → is_none (shown (present r n)) ≡ b → is_none (shown (present r s)) ≡ b
 here r n s b e h = ap (λ k. is_none (shown (present r k))) (sym e) ∙ h
 
-pub returns-in_err-sector : goal.returns-in_err-sector
-returns-in_err-sector g c =
+pub returns-in_err-sector-clause-follows : goal.returns-in_err-sector-clause-follows
+returns-in_err-sector-clause-follows g c =
     let h = c.in_err-sector.ensures in
-    record {
-      kept = refl;
-      same = refl;
-      follows = λ o. refused_at _ _ _ _ _ o tick_value 7 _ _ _ c.from_residual.ensures.1 h.0 refl (delete_sector _ _ _ h.1);
-    }
+    λ o. refused_at _ _ _ _ _ o tick_value 7 _ _ _ c.from_residual.ensures.1 h.0 refl (delete_sector _ _ _ h.1)
 
-pub returns-then-is_empty : goal.returns-then-is_empty
-returns-then-is_empty g c =
+pub returns-then-is_empty-clause-follows : goal.returns-then-is_empty-clause-follows
+returns-then-is_empty-clause-follows g c =
     let s = c.in_ok-sector.ensures in
-    record {
-      kept = refl;
-      same = refl;
-      follows = λ o.
-          changed_so _ _ _ _ _ _ _ _ _ (delete_empty _ _ _ s.1 (here (reading (sayings _)) _ _ _ s.0 (c.is_empty.ensures _ _ _ o ∙ c.if-is_empty.true)))
-          (ap (λ n. granted (n ∷ []) []) (sym (clock_reads _ _ _ _ o))) refl o;
-    }
+    λ o.
+    changed_so _ _ _ _ _ _ _ _ _ (delete_empty _ _ _ s.1 (here (reading (sayings _)) _ _ _ s.0 (c.is_empty.ensures _ _ _ o ∙ c.if-is_empty.true)))
+    (ap (λ n. granted (n ∷ []) []) (sym (clock_reads _ _ _ _ o))) refl o
 
-pub returns-in_err-check_ticks : goal.returns-in_err-check_ticks
-returns-in_err-check_ticks g c =
+pub returns-in_err-check_ticks-clause-follows : goal.returns-in_err-check_ticks-clause-follows
+returns-in_err-check_ticks-clause-follows g c =
     let h = c.in_err-check_ticks.ensures in
     let s = c.in_ok-sector.ensures in
-    record {
-      kept = refl;
-      same = refl;
-      follows = λ o.
-          refused_at _ _ _ _ _ o tick_value 11 _ _ _ c.from_residual-in_err-check_ticks.ensures.1 h.0 refl
-          (delete_ticks _ _ _ s.1 (here (reading (sayings _)) _ _ _ s.0 (c.is_empty.ensures _ _ _ o ∙ c.if-is_empty.false)) (clock_test _ _ _ _ o true h.1));
-    }
+    λ o.
+    refused_at _ _ _ _ _ o tick_value 11 _ _ _ c.from_residual-in_err-check_ticks.ensures.1 h.0 refl
+    (delete_ticks _ _ _ s.1 (here (reading (sayings _)) _ _ _ s.0 (c.is_empty.ensures _ _ _ o ∙ c.if-is_empty.false)) (clock_test _ _ _ _ o true h.1))
 
-pub returns-in_err-check_room : goal.returns-in_err-check_room
-returns-in_err-check_room g c =
+pub returns-in_err-check_room-clause-follows : goal.returns-in_err-check_room-clause-follows
+returns-in_err-check_room-clause-follows g c =
     let h = c.in_err-check_room.ensures in
     let s = c.in_ok-sector.ensures in
-    record {
-      kept = refl;
-      same = refl;
-      follows = λ o.
-          refused_at _ _ _ _ _ o tick_value 12 _ _ _ c.from_residual-in_err-check_room.ensures.1 h.0 refl
-          (delete_full _ _ _ s.1 (here (reading (sayings _)) _ _ _ s.0 (c.is_empty.ensures _ _ _ o ∙ c.if-is_empty.false)) (clock_test _ _ _ _ o false c.in_ok-check_ticks.ensures)
-          (room_test _ _ _ _ o _ _ _ true s.0 c.in_ok-sector.sector.last h.1));
-    }
+    λ o.
+    refused_at _ _ _ _ _ o tick_value 12 _ _ _ c.from_residual-in_err-check_room.ensures.1 h.0 refl
+    (delete_full _ _ _ s.1 (here (reading (sayings _)) _ _ _ s.0 (c.is_empty.ensures _ _ _ o ∙ c.if-is_empty.false)) (clock_test _ _ _ _ o false c.in_ok-check_ticks.ensures)
+    (room_test _ _ _ _ o _ _ _ true s.0 c.in_ok-sector.sector.last h.1))
 
-pub returns : goal.returns
-returns g c =
+pub returns-clause-follows : goal.returns-clause-follows
+returns-clause-follows g c =
     let m = g.C.Chip in
     let chip = c.args.chip.now in
     let ix = c.args.ix.now in
@@ -71,15 +55,11 @@ returns g c =
     let r = reading (sayings (m.pages chip)) in
     let clock = c.in_ok-check_ticks.ensures in
     let room = c.in_ok-check_room.ensures in
-    record {
-      kept = e.kept;
-      same = e.same;
-      follows = λ o.
-          let fits = room_test (m.blocks chip) m.per (m.pages chip) ix o n n deleted false refl c.in_ok-sector.sector.last room in
-          let made = e.adds (can_change (m.blocks chip) m.per (m.pages chip) ix o clock) (ltb-false _ _ fits) in
-          changed_by _ (m.blocks chip) m.per (m.pages chip) ix _ _ _ _ _
-          (delete_granted _ _ _ s.1 (here r _ _ _ s.0 (c.is_empty.ensures _ _ _ o ∙ c.if-is_empty.false)) (clock_test _ _ _ _ o false clock)
-          (room_test _ _ _ _ o _ _ _ false s.0 c.in_ok-sector.sector.last room))
-          (subst (λ z. Changed (m.blocks chip) m.per z c.add_deletion-made.result (m.pages c.add_deletion-made.new.chip) c.add_deletion-made.new.ix) (ap (λ k. add r k deleted) s.0) made)
-          c.clock_after.ensures;
-    }
+    λ o.
+    let fits = room_test (m.blocks chip) m.per (m.pages chip) ix o n n deleted false refl c.in_ok-sector.sector.last room in
+    let made = e.adds (can_change (m.blocks chip) m.per (m.pages chip) ix o clock) (ltb-false _ _ fits) in
+    changed_by _ (m.blocks chip) m.per (m.pages chip) ix _ _ _ _ _
+    (delete_granted _ _ _ s.1 (here r _ _ _ s.0 (c.is_empty.ensures _ _ _ o ∙ c.if-is_empty.false)) (clock_test _ _ _ _ o false clock)
+    (room_test _ _ _ _ o _ _ _ false s.0 c.in_ok-sector.sector.last room))
+    (subst (λ z. Changed (m.blocks chip) m.per z c.add_deletion-made.result (m.pages c.add_deletion-made.new.chip) c.add_deletion-made.new.ix) (ap (λ k. add r k deleted) s.0) made)
+    c.clock_after.ensures
