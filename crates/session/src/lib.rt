@@ -9,10 +9,8 @@ mod leftovers;
 mod making;
 mod memory;
 pub mod requests;
+mod reserving;
 mod running;
-mod said;
-mod spending;
-mod telling;
 
-pub use requests::{Halt, Made, Reply, Request, Values};
+pub use requests::{Halt, Made, Reply, Request, Value};
 pub use running::run_session;
