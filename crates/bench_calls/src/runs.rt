@@ -11,6 +11,7 @@ use bench_lines::replies::rows;
 use nor::Nor;
 use session::{Halt, Made, Request, run_session};
 use std::alloc::{AllocError, Global};
+use std::fmt;
 
 // Words of a NOR chip of 4 blocks.
 const CHIP_WORDS: usize = 8448;
@@ -22,9 +23,27 @@ pub enum BenchFault {
     NotFormatted,
 }
 
+impl fmt::Display for BenchFault {
+    fn fmt<W: fmt::Write>(&self, f: &mut fmt::Formatter<W>) -> fmt::Result {
+        match self {
+            BenchFault::NoMemory => write!(f, "no memory"),
+            BenchFault::NotFormatted => write!(f, "the chip can't be formatted"),
+        }
+    }
+}
+
 impl From<AllocError> for BenchFault {
     fn from(_fault: AllocError) -> BenchFault {
         BenchFault::NoMemory
+    }
+}
+
+impl From<Halt> for BenchFault {
+    fn from(halt: Halt) -> BenchFault {
+        match halt {
+            Halt::NoMemory => BenchFault::NoMemory,
+            Halt::Refused(_) => BenchFault::NotFormatted,
+        }
     }
 }
 
@@ -35,11 +54,7 @@ fn run_requests<'a>(heap: Global, requests: &[Request<'a>]) -> Result<Vec<Made<'
     let mut words = Vec::from_elem(heap, 0xFFFFu16, CHIP_WORDS)?;
     let chip = Nor::new(words.as_mut_slice());
     let (_, outcome) = run_session(heap, chip, b"K7", requests);
-    match outcome {
-        Ok(calls) => Ok(calls),
-        Err(Halt::NoMemory) => Err(BenchFault::NoMemory),
-        Err(Halt::Refused(_)) => Err(BenchFault::NotFormatted),
-    }
+    Ok(outcome?)
 }
 
 // The rows of all lines.
