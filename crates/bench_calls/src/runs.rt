@@ -1,6 +1,8 @@
 // The program from its input to its output.
-ghost use Rattle.std.specs.Prelude.{◌≡◌, [], ◌∷◌, length, IfOk, string_bytes};
+ghost use Rattle.std.specs.Prelude.{◌≡◌, Some, IfOk, string_bytes};
 ghost use Rattle.bench_calls.specs.Runs.{Ran, Printed};
+ghost use Rattle.bench_calls.specs.Faults.{fault_of, fault_text};
+ghost use Rattle.bench_calls.specs.declared.runs.BenchFault.TheVariants.{NoMemory};
 
 use crate::asking::requests_of;
 use crate::fills::all_fills;
@@ -24,6 +26,8 @@ pub enum BenchFault {
 }
 
 impl fmt::Display for BenchFault {
+    ghost output = { λ fault. Some (fault_text fault) };
+
     fn fmt<W: fmt::Write>(&self, f: &mut fmt::Formatter<W>) -> fmt::Result {
         match self {
             BenchFault::NoMemory => write!(f, "no memory"),
@@ -33,12 +37,16 @@ impl fmt::Display for BenchFault {
 }
 
 impl From<AllocError> for BenchFault {
+    ghost from_gives = { λ _ fault. fault ≡ NoMemory };
+
     fn from(_fault: AllocError) -> BenchFault {
         BenchFault::NoMemory
     }
 }
 
 impl From<Halt> for BenchFault {
+    ghost from_gives = { λ halt fault. fault ≡ fault_of halt };
+
     fn from(halt: Halt) -> BenchFault {
         match halt {
             Halt::NoMemory => BenchFault::NoMemory,
