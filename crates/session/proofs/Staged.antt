@@ -1,5 +1,5 @@
 -- A session under way, one call on.
-use Rattle.std.proofs.Common.{◌≡◌, ℕ, suc, ◌+◌, ◌<◌, ◌≤◌, Bool, true, false, cond, eqb, List, [], ◌∷◌, ◌++◌, map, reverse, length, Some, None, Option, Result, sym, refl, ap, ◌∙◌, subst, inl, inr, arith, length-append}
+use Rattle.std.proofs.Common.{◌≡◌, ℕ, suc, ◌+◌, ◌≤◌, Bool, true, false, cond, eqb, List, [], ◌∷◌, ◌++◌, map, reverse, length, Some, None, Option, Result, sym, refl, ap, ◌∙◌, subst, inl, inr, arith, length-append}
 use mathlib.Core.List.{reverse-append}
 use Rattle.std.proofs.lemmas.List.{map_push, length-map, append_assoc, nil_from_length}
 use Rattle.std.proofs.lemmas.List.Sums.{sum_by-append}
@@ -14,7 +14,7 @@ use Rattle.store.specs.declared.slips.Slip.{Slip}
 use Rattle.session.specs.declared.blank.Blank.{Blank}
 use Rattle.session.specs.declared.requests.Request.{Request}
 use Rattle.session.specs.declared.requests.Value.{Value}
-use Rattle.session.specs.declared.requests.Made.{Made}
+use Rattle.session.specs.declared.made.Made.{Made}
 use Rattle.session.specs.Requests.{call_of, calls_of, values_of, answer_of, event_of, events_of, is_open, opens_by, opens_in}
 use Rattle.session.specs.Slips.{without, slips_by, can_call, slip_number, slip_numbers}
 use Rattle.session.specs.Blanks.{blank_call, blank_calls}

@@ -8,8 +8,9 @@ ghost use Rattle.session.specs.Slips.{slip_numbers};
 
 use crate::blank::Blank;
 use crate::calling::perform;
+use crate::made::Made;
 use crate::memory::Memory;
-use crate::requests::{Made, Reply};
+use crate::requests::Reply;
 use chip::Chip;
 use store::Store;
 

@@ -1,8 +1,7 @@
-use Rattle.std.proofs.Common.{◌≡◌, List, ℕ, [], ◌∷◌, rules, sym, ap, ◌∙◌, arith}
+use Rattle.std.proofs.Common.{◌≡◌, List, ℕ, [], ◌∷◌, rules, ap, ◌∙◌, arith}
 use Rattle.rules.specs.declared.types.Tick.{Tick}
 use Rattle.rules.specs.Told.{told, tick_value}
 use Rattle.session.specs.Requests.{values_of}
-use Rattle.session.specs.Slips.{slip_numbers}
 use Rattle.session.proofs.Staged.{both, first_kept, on_made, goes_on, goes_to_none}
 use Rattle.session.proofs.leftovers.keep_leftovers.Goals as goal
 

@@ -15,6 +15,15 @@ invariant_of-memory g c =
     let long = c.perform-outcome.new.slips.ok.0 in
     record { slip_room = omega (arith, opens, bound, same, long); room = omega (arith, opens, bound, fewer, long, c.push_reserved.ensures.len, c.push_reserved.ensures.capacity) }
 
+pub invariant_of-memory-in-None-1 : goal.invariant_of-memory-in-None-1
+invariant_of-memory-in-None-1 g c =
+    let opens = opens_popped _ _ _ c.in-Some.ensures.items in
+    let bound = pile_bound _ _ _ _ _ c.loop-blank.memory.slips.items c.perform-outcome.new.slips.items c.perform-outcome.ensures.turn in
+    let same = c.perform-outcome.ensures.capacity in
+    let fewer = c.in-Some.ensures.cases in
+    let long = c.perform-outcome.new.slips.ok.0 in
+    record { slip_room = omega (arith, opens, bound, same, long); room = omega (arith, opens, bound, fewer, long) }
+
 pub loop-blank-preserved-in-Some-outcome : goal.loop-blank-preserved-in-Some-outcome
 loop-blank-preserved-in-Some-outcome g c =
     let inv = c.loop-blank.invariant in
