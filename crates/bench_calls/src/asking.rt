@@ -14,9 +14,7 @@ use std::alloc::{AllocError, Global};
 fn fill_of(fills: &[[u8; SECTOR_BYTES]], byte: u8) -> &[u8]
     ensures { result.now ≡ slice_index_or fills.now byte [] }
 {
-    fills
-        .get(byte as usize)
-        .map_or(&[], |fill| fill.as_slice())
+    fills.get(byte as usize).map_or(&[], |fill| fill.as_slice())
 }
 
 // The first or only call of a command.

@@ -1,4 +1,4 @@
-use Rattle.std.proofs.Common.{length, sym, ap, ◌∙◌}
+use Rattle.std.proofs.Common.{length, ap, ◌∙◌}
 use Rattle.bench_calls.proofs.Conducted.{ran_well}
 use Rattle.bench_calls.proofs.runs.run_requests.Goals as goal
 

@@ -1,6 +1,5 @@
-use Rattle.std.proofs.Common.{◌≡◌, ◌++◌, vec_items, eqb}
-use Rattle.std.specs.Fn.{ComputesKey}
-use Rattle.std.specs.Slice.Iter.{split_inclusive_rest, split_inclusive_callee}
+use Rattle.std.proofs.Common.{◌≡◌, ◌++◌, vec_items}
+use Rattle.std.specs.Slice.Iter.{split_inclusive_rest}
 use Rattle.bench_lines.specs.Lines.{commands_in}
 use Rattle.bench_lines.proofs.lines.parse_lines.Given as goal
 
