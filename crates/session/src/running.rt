@@ -14,6 +14,7 @@ use store::Store;
 
 // Formats the chip, makes the calls in their order, and gives back the chip and what was answered.
 // A keep or back whose slip is not in hand is left out, and slips that are left over are kept.
+// (No `?` here: the chip goes back in each case.)
 pub fn run_session<'a, C: Chip>(
     heap: Global,
     chip: C,
