@@ -1,7 +1,7 @@
 // Runs commands on a store: reads lines from standard input, and prints a row for each.
 #![tactic(auto)]
 
-use bench_calls::runs::{BenchFault, run_input};
+use bench_calls::runs::run_input;
 use std::io::Read;
 use std::process::ExitCode;
 
@@ -14,11 +14,7 @@ fn main(rt: HostRuntime) -> anyhow::Result<ExitCode> {
             Ok(ExitCode::SUCCESS)
         }
         Err(fault) => {
-            let reason = match fault {
-                BenchFault::NoMemory => "no memory",
-                BenchFault::NotFormatted => "the chip can't be formatted",
-            };
-            eprintln!(rt; "bench: {reason}")?;
+            eprintln!(rt; "bench: {fault}")?;
             Ok(ExitCode::FAILURE)
         }
     }

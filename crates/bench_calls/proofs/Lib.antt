@@ -1,3 +1,2 @@
 pub mod Pushed
-pub mod Replied
 pub mod Conducted

@@ -1,48 +1,32 @@
 -- What the answers say in the rows.
-use Rattle.std.specs.Prelude.{ℕ, min, Bool, true, false, cond, List, [], ◌∷◌, Some, None, vec_items, Option, ◌==◌}
-use Rattle.bench_lines.specs.declared.replies.Reply as shown
+use Rattle.std.specs.Prelude.{ℕ, min, Bool, true, false, not, List, [], ◌∷◌, map, filter, Some, None, Ok, Err, vec_items, Option, Result}
+use Rattle.std.specs.Option.{option_map}
+use Rattle.refusals.specs.declared.types.Refusal.{Refusal}
+use Rattle.rules.specs.declared.types.Holding.TheVariants.{Data, Empty}
+use Rattle.rules.specs.declared.types.Tick.{Tick}
+use Rattle.bench_lines.specs.Replies.{Shown}
 use Rattle.session.specs.declared.requests.Request.{Request}
 use Rattle.session.specs.declared.requests.Request.TheVariants.{Mount, Close, Count, Clean, Freeze, Open, Write, Delete, Read, Look, Since, SinceIn, Held, Label, Release, Revert, Keep, Back}
-use Rattle.session.specs.declared.requests.Values.{Values}
-use Rattle.session.specs.declared.requests.Values.TheVariants.{Nothing, One, Two}
-use Rattle.session.specs.declared.requests.Reply.{Reply}
-use Rattle.session.specs.declared.requests.Made.{Made}
-
--- The value of an answer that has one.
-abbrev pub one_in : Values → Option ℕ
-one_in Nothing = None
-one_in (One x) = Some (min x 4294967295)
-one_in (Two x y) = None
+use Rattle.session.specs.declared.requests.Value.{Value}
+use Rattle.session.specs.declared.requests.Value.TheVariants as value
+use Rattle.session.specs.declared.made.Made.{Made}
 
 abbrev pub head_of : List ℕ → Option ℕ
 head_of [] = None
 head_of (b ∷ bs) = Some b
 
--- The first byte of a sector, where the answer says 1: data.
-abbrev pub first_byte : Values → List ℕ → Option ℕ
-first_byte Nothing bytes = None
-first_byte (One x) bytes = cond (x == 1) (head_of bytes) None
-first_byte (Two x y) bytes = None
+abbrev pub number_of : Tick → ℕ
+number_of t = t.0
 
-abbrev pub is_read : Request → Bool
-is_read (Read sector buffer) = true
-is_read (Look state sector buffer) = true
-is_read Mount = false
-is_read Close = false
-is_read Count = false
-is_read Clean = false
-is_read Freeze = false
-is_read Open = false
-is_read (Write sector given) = false
-is_read (Delete sector) = false
-is_read (Since sector) = false
-is_read (SinceIn state sector) = false
-is_read (Held buffer) = false
-is_read (Label buffer) = false
-is_read (Release state) = false
-is_read (Revert state) = false
-is_read (Keep state) = false
-is_read (Back state) = false
+-- What an answer shows: the first byte of a sector with data, or its number.
+abbrev pub value_in : Value → List ℕ → Option ℕ
+value_in (value.Tick t) bytes = Some (number_of t)
+value_in (value.Holding Data) bytes = head_of bytes
+value_in (value.Holding Empty) bytes = None
+value_in (value.Since t) bytes = option_map number_of t
+value_in (value.Count c) bytes = None
+value_in (value.Size n) bytes = Some (min n 4294967295)
+value_in value.Nothing bytes = None
 
 abbrev pub is_close : Request → Bool
 is_close Close = true
@@ -64,15 +48,14 @@ is_close (Revert state) = false
 is_close (Keep state) = false
 is_close (Back state) = false
 
--- A refusal has no value; a read or look shows the first byte, any other call its value.
-abbrev pub value_of : Request → Reply → Option ℕ
-value_of request reply =
-    cond (reply.number == 0) (cond (is_read request) (first_byte reply.values (vec_items reply.bytes)) (one_in reply.values)) None
+-- A refusal stays one.
+abbrev pub shown : Result Value Refusal → List ℕ → Shown
+shown (Ok v) bytes = Ok (value_in v bytes)
+shown (Err refusal) bytes = Err refusal
 
-abbrev pub reply_to : Made → shown.Reply
-reply_to made = record { number = made.reply.number; value = value_of made.request made.reply }
+abbrev pub reply_to : Made → Shown
+reply_to made = shown made.reply.outcome (vec_items made.reply.bytes)
 
 -- The close of a remount shows nothing.
-abbrev pub replies_to : List Made → List shown.Reply
-replies_to [] = []
-replies_to (m ∷ ms) = cond (is_close m.request) (replies_to ms) (reply_to m ∷ replies_to ms)
+abbrev pub replies_to : List Made → List Shown
+replies_to ms = map reply_to (filter (λ m. not (is_close m.request)) ms)

@@ -1,7 +1,7 @@
 // The calls that commands make.
 ghost use Rattle.std.specs.Prelude.{◌≡◌, [], ◌++◌, map, IfOk, OnOk, slice_index_or};
 ghost use Rattle.session.specs.Requests.{call_of};
-ghost use Rattle.bench_calls.specs.Calls.{first_call, is_remount, calls_for, calls_in};
+ghost use Rattle.bench_calls.specs.Calls.{first_call, calls_for, calls_in};
 
 use crate::fills::SECTOR_BYTES;
 use bench_lines::commands::Command;
@@ -14,8 +14,7 @@ use std::alloc::{AllocError, Global};
 fn fill_of(fills: &[[u8; SECTOR_BYTES]], byte: u8) -> &[u8]
     ensures { result.now ≡ slice_index_or fills.now byte [] }
 {
-    let at = byte as usize;
-    if at < fills.len() { &fills[at] } else { &[] }
+    fills.get(byte as usize).map_or(&[], |fill| fill.as_slice())
 }
 
 // The first or only call of a command.
@@ -47,15 +46,6 @@ fn first_call<'a>(command: Command, fills: &'a [[u8; SECTOR_BYTES]]) -> Request<
     }
 }
 
-fn is_remount(command: Command) -> bool
-    ensures { result ≡ is_remount command }
-{
-    match command {
-        Command::Remount => true,
-        _ => false,
-    }
-}
-
 // Appends the calls of a command.
 fn push_calls<'a>(
     requests: &mut Vec<Request<'a>>,
@@ -65,7 +55,7 @@ fn push_calls<'a>(
     ensures { OnOk result (map call_of requests.new.items ≡ map call_of requests.old.items ++ calls_for fills.now command) }
 {
     requests.push(first_call(command, fills))?;
-    if is_remount(command) {
+    if command == Command::Remount {
         requests.push(Request::Mount)?;
     }
     Ok(())

@@ -1,6 +1,8 @@
 // The program from its input to its output.
-ghost use Rattle.std.specs.Prelude.{◌≡◌, [], ◌∷◌, length, IfOk, string_bytes};
+ghost use Rattle.std.specs.Prelude.{◌≡◌, Some, IfOk, string_bytes};
 ghost use Rattle.bench_calls.specs.Runs.{Ran, Printed};
+ghost use Rattle.bench_calls.specs.Faults.{fault_of, fault_text};
+ghost use Rattle.bench_calls.specs.declared.runs.BenchFault.TheVariants.{NoMemory};
 
 use crate::asking::requests_of;
 use crate::fills::all_fills;
@@ -11,6 +13,7 @@ use bench_lines::replies::rows;
 use nor::Nor;
 use session::{Halt, Made, Request, run_session};
 use std::alloc::{AllocError, Global};
+use std::fmt;
 
 // Words of a NOR chip of 4 blocks.
 const CHIP_WORDS: usize = 8448;
@@ -22,9 +25,33 @@ pub enum BenchFault {
     NotFormatted,
 }
 
+impl fmt::Display for BenchFault {
+    ghost output = { λ fault. Some (fault_text fault) };
+
+    fn fmt<W: fmt::Write>(&self, f: &mut fmt::Formatter<W>) -> fmt::Result {
+        match self {
+            BenchFault::NoMemory => write!(f, "no memory"),
+            BenchFault::NotFormatted => write!(f, "the chip can't be formatted"),
+        }
+    }
+}
+
 impl From<AllocError> for BenchFault {
+    ghost from_gives = { λ _ fault. fault ≡ NoMemory };
+
     fn from(_fault: AllocError) -> BenchFault {
         BenchFault::NoMemory
+    }
+}
+
+impl From<Halt> for BenchFault {
+    ghost from_gives = { λ halt fault. fault ≡ fault_of halt };
+
+    fn from(halt: Halt) -> BenchFault {
+        match halt {
+            Halt::NoMemory => BenchFault::NoMemory,
+            Halt::Refused(_) => BenchFault::NotFormatted,
+        }
     }
 }
 
@@ -35,11 +62,7 @@ fn run_requests<'a>(heap: Global, requests: &[Request<'a>]) -> Result<Vec<Made<'
     let mut words = Vec::from_elem(heap, 0xFFFFu16, CHIP_WORDS)?;
     let chip = Nor::new(words.as_mut_slice());
     let (_, outcome) = run_session(heap, chip, b"K7", requests);
-    match outcome {
-        Ok(calls) => Ok(calls),
-        Err(Halt::NoMemory) => Err(BenchFault::NoMemory),
-        Err(Halt::Refused(_)) => Err(BenchFault::NotFormatted),
-    }
+    Ok(outcome?)
 }
 
 // The rows of all lines.

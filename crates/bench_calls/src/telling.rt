@@ -1,86 +1,42 @@
 // What the answers say in the rows.
 ghost use Rattle.std.specs.Prelude.{◌≡◌, IfOk};
-ghost use Rattle.bench_calls.specs.Replies.{one_in, first_byte, is_read, is_close, value_of, reply_to, replies_to};
+ghost use Rattle.bench_calls.specs.Replies.{value_in, reply_to, replies_to};
 
 use bench_lines::replies::Reply as Shown;
-use session::{Made, Reply, Request, Values};
+use rules::Holding;
+use session::{Made, Request, Value};
 use std::alloc::{AllocError, Global};
 
-// The value of an answer that has one. (No value of a call is above the greatest u32.)
-fn one_in(values: Values) -> Option<u32>
-    ensures { result ≡ one_in values }
+// What a granted call shows: the first byte of a sector with data, or the number that was answered.
+// (No number of a call is above the greatest u32.)
+fn value_in(value: Value, bytes: &[u8]) -> Option<u32>
+    ensures { result ≡ value_in value bytes.now }
 {
-    match values {
-        Values::One(value) => Some(value.min(4294967295) as u32),
-        Values::Nothing => None,
-        Values::Two(_, _) => None,
-    }
-}
-
-// The first byte of a sector that holds data.
-fn first_byte(values: Values, bytes: &[u8]) -> Option<u32>
-    ensures { result ≡ first_byte values bytes.now }
-{
-    match values {
-        Values::One(1) => match bytes {
-            [first, ..] => Some(*first as u32),
-            [] => None,
-        },
-        _ => None,
-    }
-}
-
-fn is_read(request: Request) -> bool
-    ensures { result ≡ is_read request.entry }
-{
-    match request {
-        Request::Read { .. } => true,
-        Request::Look { .. } => true,
-        _ => false,
-    }
-}
-
-fn is_close(request: Request) -> bool
-    ensures { result ≡ is_close request.entry }
-{
-    match request {
-        Request::Close => true,
-        _ => false,
-    }
-}
-
-// What a call that was granted shows: the first byte of what was read, or the value.
-fn value_of(request: Request, reply: &Reply) -> Option<u32>
-    ensures { result ≡ value_of request.entry reply.now }
-{
-    if reply.number != 0 {
-        return None;
-    }
-    if is_read(request) {
-        first_byte(reply.values, reply.bytes.as_slice())
-    } else {
-        one_in(reply.values)
+    match value {
+        Value::Tick(tick) => Some(tick.0),
+        Value::Holding(Holding::Data) => bytes.first().map(|byte| u32::from(*byte)),
+        Value::Holding(Holding::Empty) => None,
+        Value::Since(birth) => birth.map(|tick| tick.0),
+        Value::Count(_) => None,
+        Value::Size(size) => Some(u32::try_from(size).unwrap_or(u32::MAX)),
+        Value::Nothing => None,
     }
 }
 
 fn reply_to(made: &Made) -> Shown
     ensures { result ≡ reply_to made.now }
 {
-    Shown {
-        number: made.reply.number,
-        value: value_of(made.request, &made.reply),
-    }
+    let bytes = made.reply.bytes.as_slice();
+    made.reply.outcome.map(|value| value_in(value, bytes))
 }
 
 // What the calls show, in their order; the close before a mount shows nothing.
 pub fn replies_to(heap: Global, calls: &[Made]) -> Result<Vec<Shown>, AllocError>
     ensures { IfOk result (λ replies. replies.items ≡ replies_to calls.now) }
 {
-    let mut replies = Vec::with_capacity(heap, calls.len())?;
-    for call in calls {
-        if !is_close(call.request) {
-            replies.push(reply_to(call))?;
-        }
-    }
-    Ok(replies)
+    calls
+        .iter()
+        .filter(|made| !matches!(made.request, Request::Close))
+        .map(reply_to)
+        .collect(heap)
 }

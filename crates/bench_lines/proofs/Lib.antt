@@ -1,4 +1,3 @@
 pub mod Numerals
-pub mod Cuts
-pub mod Inputs
 pub mod Printed
+pub mod Inputs

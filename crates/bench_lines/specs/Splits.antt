@@ -1,5 +1,6 @@
 -- Bytes cut at a separator.
-use Rattle.std.specs.Prelude.{ℕ, cond, List, [], ◌∷◌, ◌++◌, Some, None, Option, ◌==◌}
+use Rattle.std.specs.Prelude.{ℕ, ◌+◌, List, take, drop, Option, ◌==◌, position}
+use Rattle.std.specs.Option.{option_map}
 use Rattle.std.specs.Borrow.{Bor}
 
 -- A front part and a back part.
@@ -9,12 +10,10 @@ Parts = List ℕ × List ℕ
 abbrev pub parts : Bor (List ℕ) × Bor (List ℕ) → Parts
 parts pair = (pair.0.now, pair.1.now)
 
--- More bytes before the front part.
-abbrev pub after : List ℕ → Option Parts → Option Parts
-after front None = None
-after front (Some pair) = Some (front ++ pair.0, pair.1)
+-- The parts before and after an index.
+abbrev pub cut_at : List ℕ → ℕ → Parts
+cut_at bytes at = (take at bytes, drop (at + 1) bytes)
 
 -- The bytes before the first separator and those after it, where there is one.
 abbrev pub cut : ℕ → List ℕ → Option Parts
-cut separator [] = None
-cut separator (b ∷ bs) = cond (b == separator) (Some ([], bs)) (after (b ∷ []) (cut separator bs))
+cut separator bytes = option_map (cut_at bytes) (position (λ b. b == separator) bytes)

@@ -1,5 +1,6 @@
 // The commands of the program `bench`, one to a line.
 ghost use Rattle.std.specs.Prelude.{◌≡◌};
+ghost use Rattle.bench_lines.specs.Replies.{letter_of};
 ghost use Rattle.bench_lines.specs.Commands.{bare_of, one_of, write_of, look_of, two_of, numbers_of, words_of, command_of};
 
 use crate::numbers::parse_number;
@@ -19,6 +20,24 @@ pub enum Command {
     Revert(u32),
     Clean,
     Remount,
+}
+
+impl Command {
+    pub(crate) fn letter(self) -> &'static str
+        ensures { result.now ≡ letter_of self }
+    {
+        match self {
+            Command::Write { .. } => "w",
+            Command::Delete(_) => "d",
+            Command::Read(_) => "r",
+            Command::Look { .. } => "l",
+            Command::Freeze => "f",
+            Command::Release(_) => "x",
+            Command::Revert(_) => "v",
+            Command::Clean => "c",
+            Command::Remount => "z",
+        }
+    }
 }
 
 // A command of a letter alone.

@@ -24,9 +24,6 @@ pub fn parse_number(word: &[u8], most: u32) -> Option<u32>
     if word.is_empty() {
         return None;
     }
-    let mut number = 0;
-    for byte in word {
-        number = append_digit(number, *byte, most)?;
-    }
-    Some(number)
+    word.iter()
+        .try_fold(0, |number, byte| append_digit(number, *byte, most))
 }

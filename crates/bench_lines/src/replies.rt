@@ -1,42 +1,26 @@
 // What the program prints: a row for each line of its input.
 ghost use Rattle.std.specs.Prelude.{◌≡◌, ◌++◌, IfOk, string_bytes, OnOk};
-ghost use Rattle.bench_lines.specs.Replies.{letter_of, row_of, rows_of};
+ghost use Rattle.bench_lines.specs.Replies.{row_of, rows_of};
 
 use crate::commands::Command;
+use refusals::Refusal;
 use std::alloc::{AllocError, Global};
 
-// What the store replied to a command: the number of the outcome, and the value if it has one.
-#[derive(Clone, Copy, Debug, PartialEq, Eq)]
-pub struct Reply {
-    pub number: u8,
-    pub value: Option<u32>,
-}
+// What the store replied to a command: the value, if a granted one has any, or why it was refused.
+pub type Reply = Result<Option<u32>, Refusal>;
 
-fn letter_of(command: Command) -> &'static str
-    ensures { result.now ≡ letter_of command }
-{
-    match command {
-        Command::Write { .. } => "w",
-        Command::Delete(_) => "d",
-        Command::Read(_) => "r",
-        Command::Look { .. } => "l",
-        Command::Freeze => "f",
-        Command::Release(_) => "x",
-        Command::Revert(_) => "v",
-        Command::Clean => "c",
-        Command::Remount => "z",
-    }
-}
-
-// The row of a command: its letter, the number of the reply, and the value or `-`.
+// The row of a command: its letter, 0 or the refusal's number, and the value or `-`.
 pub fn row(heap: Global, command: Command, reply: Reply) -> Result<String, AllocError>
     ensures { IfOk result (λ text. string_bytes text ≡ row_of command reply) }
 {
-    let letter = letter_of(command);
-    let number = reply.number;
-    match reply.value {
-        Some(value) => format!(in heap; "{letter} {number} {value}\n"),
-        None => format!(in heap; "{letter} {number} -\n"),
+    let letter = command.letter();
+    match reply {
+        Ok(Some(value)) => format!(in heap; "{letter} 0 {value}\n"),
+        Ok(None) => format!(in heap; "{letter} 0 -\n"),
+        Err(refusal) => {
+            let number = refusal.number();
+            format!(in heap; "{letter} {number} -\n")
+        }
     }
 }
 
@@ -50,8 +34,7 @@ fn push_row(
     ensures { OnOk result (string_bytes text.new ≡ string_bytes text.old ++ row_of command reply) }
 {
     let row = row(heap, command, reply)?;
-    text.push_str(row.as_str())?;
-    Ok(())
+    text.push_str(row.as_str())
 }
 
 // The row of each line: `?` where the line is no command, else the row of the command with the next reply.

@@ -1,47 +1,61 @@
 -- A pile of slips, as the list of their numbers.
-use Rattle.std.proofs.Common.{◌≡◌, ℕ, zero, suc, ◌+◌, ◌<◌, Bool, true, false, cond, ◌||◌, eqb, List, [], ◌∷◌, ◌++◌, length, get_or, take, sym, refl, ap, ◌∙◌, arith, eq-eqb, ne_eqb}
-use Rattle.std.proofs.lemmas.Bool.{true≢false}
-use Rattle.std.specs.List.{remove}
-use Rattle.std.proofs.lemmas.List.{map_more, get_or_default}
+use Rattle.std.proofs.Common.{◌≡◌, ℕ, suc, ◌+◌, ◌<◌, ◌≤◌, true, false, not, cond, ◌||◌, eqb, List, [], ◌∷◌, length, get_or, position, Some, None, sym, refl, ap, ◌∙◌, arith, eq-eqb, eqb-true}
+use Rattle.std.proofs.lemmas.Bool.Decides.{nat_tests}
+use Rattle.std.proofs.lemmas.List.Quantifiers.{position-Some}
+use Rattle.std.specs.List.{remove, position_or_len}
 use Rattle.readings.specs.Versions.{any, has}
 use Rattle.store.specs.declared.slips.Slip.{Slip}
-use Rattle.session.specs.Slips.{without, slip_number, slip_numbers, Place}
+use Rattle.session.specs.Slips.{without, slip_number, slip_numbers, numbered, Took}
 
-pub has_none : (n : ℕ) → has n [] ≡ false
-has_none n = refl
+module _ (n : ℕ) where
+  abbrev first : List Slip → ℕ
+  first ss = position_or_len (numbered n) ss
 
-pub has_head : (n m : ℕ) (ms : List ℕ) → n ≡ m → has n (m ∷ ms) ≡ true
-has_head n m ms e = ap (λ b. b || any (eqb n) ms) (eq-eqb n m e)
+  first_there : (ss : List Slip) → first ss < length ss → (has n (slip_numbers ss) ≡ true) × (slip_numbers (remove ss (first ss)) ≡ without n (slip_numbers ss))
+  unfolding any
+  first_there [] l = absurd (omega arith)
+  first_there (s ∷ ss) l =
+      elim (eqb n (slip_number s)) as (λ b. cond (not b) (1 + first ss) 0 < suc (length ss) → ((b || any (eqb n) (slip_numbers ss)) ≡ true) × (slip_numbers (remove (s ∷ ss) (cond (not b) (1 + first ss) 0)) ≡ cond b (slip_numbers ss) (slip_number s ∷ without n (slip_numbers ss)))) [
+        | true ↦ λ h. (refl, refl)
+        | false ↦ λ h.
+            let r = first_there ss (omega arith) in
+            let next : 1 + first ss ≡ suc (first ss) = omega arith in
+            (r.0, rw next (ap (λ ns. slip_number s ∷ ns) r.1))
+      ] l
 
-neither : (a b : Bool) → (a || b) ≡ false → (a ≡ false) × (b ≡ false)
-neither true b e = (e, absurd (true≢false e))
-neither false b e = (refl, e)
+  not_there : (ss : List Slip) → length ss ≤ first ss → has n (slip_numbers ss) ≡ false
+  unfolding any
+  not_there [] l = refl
+  not_there (s ∷ ss) l =
+      elim (eqb n (slip_number s)) as (λ b. suc (length ss) ≤ cond (not b) (1 + first ss) 0 → (b || any (eqb n) (slip_numbers ss)) ≡ false) [
+        | true ↦ λ h. absurd (omega arith)
+        | false ↦ λ h. not_there ss (omega arith)
+      ] l
 
--- one more, which is not n
-pub has_push : (n m : ℕ) (ms : List ℕ) → has n ms ≡ false → eqb n m ≡ false → has n (ms ++ m ∷ []) ≡ false
-has_push n m [] h e = ap (λ b. b || false) e
-has_push n m (k ∷ ms) h e =
-    let q = neither (eqb n k) (any (eqb n) ms) h in
-    ap (λ b. b || any (eqb n) (ms ++ m ∷ [])) q.0 ∙ has_push n m ms q.1 e
+  pub none_found : (ss : List Slip) → position (numbered n) ss ≡ None → has n (slip_numbers ss) ≡ false
+  none_found ss is = not_there ss (grind (arith, nat_tests))
 
--- the first n stands at i
-pub first_at : (n : ℕ) (ss : List Slip) (i : ℕ) (d : Slip) → i < length ss → has n (slip_numbers (take i ss)) ≡ false → slip_number (get_or ss i d) ≡ n → (has n (slip_numbers ss) ≡ true) × (slip_numbers (remove ss i) ≡ without n (slip_numbers ss))
-first_at n [] i d l h e = absurd (omega arith)
-first_at n (s ∷ ss) zero d l h e =
-    (has_head n (slip_number s) (slip_numbers ss) (sym e), ap (λ b. cond b (slip_numbers ss) (slip_number s ∷ without n (slip_numbers ss))) (sym (eq-eqb n (slip_number s) (sym e))))
-first_at n (s ∷ ss) (suc i) d l h e =
-    let m = slip_number s in
-    let q = neither (eqb n m) (any (eqb n) (slip_numbers (take i ss))) h in
-    let r = first_at n ss i d (omega arith) q.1 e in (
-      ap (λ b. b || any (eqb n) (slip_numbers ss)) q.0 ∙ r.0,
-      ap (λ ns. m ∷ ns) r.1 ∙ ap (λ b. cond b (slip_numbers ss) (m ∷ without n (slip_numbers ss))) (sym q.0),
-    )
+  found : (ss : List Slip) (i : ℕ) → position (numbered n) ss ≡ Some i → (i ≡ first ss) × (i < length ss)
+  found ss i is = (grind (arith, nat_tests), grind (arith, nat_tests))
 
-pub not_yet : (n : ℕ) (ss : List Slip) (i : ℕ) (d : Slip) → i < length ss → has n (slip_numbers (take i ss)) ≡ false → (slip_number (get_or ss i d) ≡ n → ⊥) → has n (slip_numbers (take (i + 1) ss)) ≡ false
-not_yet n ss i d l h ne =
-    ap (has n) (map_more slip_number ss i d l) ∙ has_push n (slip_number (get_or ss i d)) (slip_numbers (take i ss)) h (ne_eqb n (slip_number (get_or ss i d)) (λ e. ne (sym e)))
+  pub took : (ss rest : List Slip) (i : ℕ) (slip : Slip) → position (numbered n) ss ≡ Some i → slip ≡ get_or ss i slip → rest ≡ remove ss i → Took n ss slip rest
+  took ss rest i slip is value removed =
+      let f = found ss i is in
+      let h = first_there ss (omega (arith, f)) in
+      record {
+        has_it = h.0;
+        is_it = ap slip_number value ∙ sym (eqb-true n (slip_number (get_or ss i slip)) (position-Some (numbered n) ss i slip is).1);
+        leaves = ap slip_numbers (removed ∙ ap (remove ss) f.0) ∙ h.1;
+      }
 
-pub place : (n : ℕ) (ss : List Slip) (i : ℕ) (d : Slip) → i < length ss → has n (slip_numbers (take i ss)) ≡ false → slip_number (get_or ss i d) ≡ n → Place n ss i
-place n ss i d l h e =
-    let f = first_at n ss i d l h e in
-    record { within = l; has_it = f.0; is_it = λ k. ap slip_number (get_or_default ss i k d l) ∙ e; rest = f.1 }
+-- The slip at the top of a pile.
+pub took_first : (s : Slip) (ss : List Slip) → Took (slip_number s) (s ∷ ss) s ss
+unfolding any
+took_first s ss =
+    let n = slip_number s in
+    let same = eq-eqb n n refl in
+    record {
+      has_it = ap (λ b. b || any (eqb n) (slip_numbers ss)) same;
+      is_it = refl;
+      leaves = ap (λ b. cond b (slip_numbers ss) (n ∷ without n (slip_numbers ss))) (sym same);
+    }

@@ -1,25 +1,27 @@
 -- A session under way, one call on.
-use Rattle.std.proofs.Common.{◌≡◌, ℕ, suc, ◌+◌, ◌<◌, ◌≤◌, Bool, true, false, cond, eqb, List, [], ◌∷◌, ◌++◌, map, reverse, length, get_or, sym, refl, ap, ◌∙◌, subst, inl, inr, arith, length-append}
+use Rattle.std.proofs.Common.{◌≡◌, ℕ, suc, ◌+◌, ◌≤◌, Bool, true, false, cond, eqb, List, [], ◌∷◌, ◌++◌, map, reverse, length, Some, None, Option, Result, sym, refl, ap, ◌∙◌, subst, inl, inr, arith, length-append}
 use mathlib.Core.List.{reverse-append}
-use Rattle.std.specs.List.{remove, AllByRecursion}
 use Rattle.std.proofs.lemmas.List.{map_push, length-map, append_assoc, nil_from_length}
+use Rattle.std.proofs.lemmas.List.Sums.{sum_by-append}
 use Rattle.std.proofs.lemmas.Bool.{cases_eq, true≢false}
+use Rattle.refusals.specs.declared.types.Refusal.{Refusal}
 use Rattle.rules.specs.Calls.{Call, mount, close, count, clean, freeze, open_slip, write, delete, read, look, since, since_in, ask_held, ask_label, release, revert, keep_slip, back_slip, Answer}
+use Rattle.rules.specs.Told.{told}
 use Rattle.line.specs.Line.{Event, first_or}
 use Rattle.store.specs.Views.{View, is_open, Sound}
 use Rattle.store.specs.Deeds.{Changes, Cleans, Closes, Mounts, Does}
 use Rattle.store.specs.declared.slips.Slip.{Slip}
 use Rattle.session.specs.declared.blank.Blank.{Blank}
-use Rattle.session.specs.declared.requests.Made.{Made}
-use Rattle.session.specs.Requests.{call_of, answer_of, event_of, events_of, opens_by, opens_in}
-use Rattle.session.specs.Slips.{without, slips_by, can_call, slip_number, slip_numbers, Took}
-use Rattle.session.specs.Memory.{blank_call, blank_calls, Ready}
-use Rattle.session.specs.Turns.{Called, LeftOut}
+use Rattle.session.specs.declared.requests.Request.{Request}
+use Rattle.session.specs.declared.requests.Value.{Value}
+use Rattle.session.specs.declared.made.Made.{Made}
+use Rattle.session.specs.Requests.{call_of, calls_of, values_of, answer_of, event_of, events_of, gives_slip, opens_by, opens_in}
+use Rattle.session.specs.Slips.{without, slips_by, can_call, slip_number, slip_numbers}
+use Rattle.session.specs.Blanks.{blank_call, blank_calls}
+use Rattle.session.specs.Turns.{Called, LeftOut, Turn}
 use Rattle.session.specs.Sessions.{called, left_out}
 use Rattle.session.specs.Stages.{Stage, Goes}
-use Rattle.session.proofs.Blanked.{opens_push}
-use Rattle.session.proofs.Piles.{has_none, first_at}
-use Rattle.session.proofs.Spent.{kept}
+use Rattle.session.proofs.Piles.{took_first}
 
 -- An open store stays sound, and the chip as large as it was.
 record Kept (v w : View) : Type 0 where
@@ -104,9 +106,19 @@ on_left_out c es v w ns ms t label blocks cs st =
       blocks_are = st.blocks_are;
     })
 
--- one event more
-pub events_push : (ms ns : List Made) (m : Made) → ns ≡ ms ++ m ∷ [] → events_of ns ≡ event_of m ∷ events_of ms
-events_push ms ns m e = ap events_of e ∙ ap reverse (map_push event_of ms m) ∙ reverse-append (map event_of ms) (event_of m ∷ [])
+-- one element more at the end, mapped and turned round
+pub reverse_push : {A B : Type 0} (f : A → B) (xs : List A) (x : A) → reverse (map f (xs ++ x ∷ [])) ≡ f x ∷ reverse (map f xs)
+reverse_push f xs x = ap reverse (map_push f xs x) ∙ reverse-append (map f xs) (f x ∷ [])
+
+-- one request more, from the end
+pub blanks_more : (rest others : List Request) (q : Request) (b : Blank) (bs cs : List Blank) (all : List Call) → rest ≡ others ++ q ∷ [] → b.request ≡ q → cs ≡ bs ++ b ∷ [] → blank_calls bs ++ calls_of rest ≡ all → blank_calls cs ++ calls_of others ≡ all
+blanks_more rest others q b bs cs all rest-is for pushed inv =
+    let calls = ap blank_calls pushed ∙ map_push blank_call bs b ∙ ap (λ r. blank_calls bs ++ call_of r ∷ []) for in
+    let left = ap calls_of rest-is ∙ reverse_push call_of others q in
+    ap (λ cs. cs ++ calls_of others) calls ∙ append_assoc (blank_calls bs) (call_of q ∷ []) (calls_of others) ∙ ap (λ cs. blank_calls bs ++ cs) (sym left) ∙ inv
+
+opens_push : (cs : List Call) (c : Call) → opens_in (cs ++ c ∷ []) ≡ opens_in cs + opens_by c
+opens_push cs c = sum_by-append (λ k. cond (gives_slip k) 1 0) cs (c ∷ [])
 
 without_length : (n : ℕ) (ns : List ℕ) → length (without n ns) ≤ length ns
 without_length n [] = omega arith
@@ -137,28 +149,25 @@ slips_bound (ask_label buffer) a ns = omega arith
 slips_bound (release n) a ns = omega arith
 slips_bound (revert n) a ns = omega arith
 
--- the piles themselves; n and m are their lengths
-module _ (ss ts : List Slip) (n m : ℕ) (n-is : n ≡ length ss) (m-is : m ≡ length ts) where
-  pub pile_bound : (c : Call) (a : Answer) → slip_numbers ts ≡ slips_by c a (slip_numbers ss) → m ≤ n + opens_by c
-  pile_bound c a e =
-      let p = length-map ss slip_number in
-      let q = length-map ts slip_number in
-      let r : length (slip_numbers ts) ≡ length (slips_by c a (slip_numbers ss)) = ap length e in
-      let s = slips_bound c a (slip_numbers ss) in
-      omega arith
-
-  pub pile_same : (k : ℕ) → slip_numbers ts ≡ slip_numbers ss → m ≤ n + k
-  pile_same k e =
-      let p = length-map ss slip_number in
-      let q = length-map ts slip_number in
-      let r : length (slip_numbers ts) ≡ length (slip_numbers ss) = ap length e in
-      omega arith
+-- the pile after a turn
+pub pile_bound : (c : Call) (v w : View) (buffer : List ℕ) (o : Option (Result Value Refusal)) (ss ts : List Slip) → Turn c v (slip_numbers ss) buffer o w (slip_numbers ts) → length ts ≤ length ss + opens_by c
+pile_bound c v w buffer (Some outcome) ss ts turn =
+    let p = length-map ss slip_number in
+    let q = length-map ts slip_number in
+    let r : length (slip_numbers ts) ≡ length (slips_by c (told values_of buffer outcome) (slip_numbers ss)) = ap length turn.slips in
+    let s = slips_bound c (told values_of buffer outcome) (slip_numbers ss) in
+    omega arith
+pile_bound c v w buffer None ss ts turn =
+    let p = length-map ss slip_number in
+    let q = length-map ts slip_number in
+    let r : length (slip_numbers ts) ≡ length (slip_numbers ss) = ap length turn.slips in
+    omega arith
 
 -- a call that was made and noted
 pub on_made : (v w : View) (ns ms : List ℕ) (before after : List Made) (m : Made) (a : Answer) → after ≡ before ++ m ∷ [] → answer_of m.reply ≡ a → Called (call_of m.request) v ns a w ms → Goes (call_of m.request ∷ []) (events_of before) v ns (events_of after) w ms
 on_made v w ns ms before after m a pushed is t label blocks cs st =
     let c = call_of m.request in
-    let es-are : events_of after ≡ record { call = c; answer = a } ∷ events_of before = events_push before after m pushed ∙ ap (λ (z : Answer). record { call = c; answer = z } ∷ events_of before) is in
+    let es-are : events_of after ≡ record { call = c; answer = a } ∷ events_of before = ap events_of pushed ∙ reverse_push event_of before m ∙ ap (λ (z : Answer). record { call = c; answer = z } ∷ events_of before) is in
     subst (λ (es : List Event). Stage label blocks (c ∷ cs) es w ms) (sym es-are) (on_called c a (events_of before) v w ns ms t label blocks cs st)
 
 pub both : {ks bs cs ds : List ℕ} → ks ≡ bs → cs ≡ ds → ks ++ cs ≡ bs ++ ds
@@ -168,10 +177,6 @@ both {bs = bs} {cs = cs} e f = ap (λ z. z ++ cs) e ∙ ap (λ z. bs ++ z) f
 pub goes_on : (c : Call) (more : List Call) (es fs hs : List Event) (u v w : View) (ls ns ms : List ℕ) → Goes more es u ls fs v ns → Goes (c ∷ []) fs v ns hs w ms → Goes (c ∷ more) es u ls hs w ms
 goes_on c more es fs hs u v w ls ns ms g h label blocks cs st = h label blocks (more ++ cs) (g label blocks cs st)
 
-pub all_last : {A : Type 0} (P : A → Type 0) (xs : List A) (x : A) → AllByRecursion P (xs ++ x ∷ []) → AllByRecursion P xs × P x
-all_last P [] x h = (tt, h.0)
-all_last P (y ∷ xs) x h = let r = all_last P xs x h.1 in ((h.0, r.0), r.1)
-
 -- the last blank taken off
 module _ (bs rest : List Blank) (b : Blank) (popped : bs ≡ rest ++ b ∷ []) where
   pub calls_popped : blank_calls bs ≡ blank_calls rest ++ blank_call b ∷ []
@@ -179,9 +184,6 @@ module _ (bs rest : List Blank) (b : Blank) (popped : bs ≡ rest ++ b ∷ []) w
 
   pub opens_popped : opens_in (blank_calls bs) ≡ opens_in (blank_calls rest) + opens_by (blank_call b)
   opens_popped = ap opens_in calls_popped ∙ opens_push (blank_calls rest) (blank_call b)
-
-  pub ready_popped : AllByRecursion Ready bs → AllByRecursion Ready rest × Ready b
-  ready_popped h = all_last Ready rest b (subst (λ (z : List Blank). AllByRecursion Ready z) popped h)
 
   pub split_popped : (all more : List Call) → all ≡ blank_calls bs ++ more → all ≡ blank_calls rest ++ (blank_call b ∷ more)
   split_popped all more e = e ∙ ap (λ z. z ++ more) calls_popped ∙ append_assoc (blank_calls rest) (blank_call b ∷ []) more
@@ -194,15 +196,10 @@ pub none_left : (bs : List Blank) (n : ℕ) (all more : List Call) → n ≡ len
 none_left bs n all more n-is none e = e ∙ ap (λ z. blank_calls z ++ more) (nil_from_length bs (sym n-is ∙ none))
 
 -- the first slip of the pile, kept
-module _ (v w : View) (ss rest : List Slip) (slip : Slip) (number : slip ≡ get_or ss 0 slip) (some : 0 < length ss) (removed-is : rest ≡ remove ss 0) where
-  first_took : Took (slip_number slip) ss slip rest
-  first_took =
-      let f = first_at (slip_number slip) ss 0 slip some (has_none (slip_number slip)) (ap slip_number (sym number)) in
-      record { has_it = f.0; is_it = refl; leaves = ap slip_numbers removed-is ∙ f.1 }
-
-  pub first_kept : (n : ℕ) (a b : Answer) → n ≡ slip_number slip → a ≡ b → Changes (keep_slip (slip_number slip)) v b w → Called (keep_slip n) v (slip_numbers ss) a w (slip_numbers rest)
-  first_kept n a b e told d =
-      subst (λ (m : ℕ). Called (keep_slip m) v (slip_numbers ss) a w (slip_numbers rest)) (sym e) (kept v w (slip_number slip) ss rest slip a b first_took told d)
+pub first_kept : (v w : View) (ss rest : List Slip) (slip : Slip) (n : ℕ) (a b : Answer) → ss ≡ slip ∷ rest → n ≡ slip_number slip → a ≡ b → Changes (keep_slip (slip_number slip)) v b w → Called (keep_slip n) v (slip_numbers ss) a w (slip_numbers rest)
+first_kept v w ss rest slip n a b top number told d =
+    let took = took_first slip rest in
+    rw (top, number, told) (record { in_hand = took.has_it; does = d; slips = took.leaves })
 
 -- no slip is left
 pub goes_to_none : (more : List Call) (es fs : List Event) (u w : View) (ls : List ℕ) (ss : List Slip) {n : ℕ} → n ≡ length ss → n ≡ 0 → Goes more es u ls fs w (slip_numbers ss) → Goes more es u ls fs w []

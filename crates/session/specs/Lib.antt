@@ -1,5 +1,7 @@
+pub mod Kinds
 pub mod Requests
 pub mod Slips
+pub mod Blanks
 pub mod Memory
 pub mod Turns
 pub mod Sessions

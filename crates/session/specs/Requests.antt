@@ -1,14 +1,14 @@
 -- What was asked and answered, as a call and an answer of the rules.
-use Rattle.std.specs.Prelude.{ℕ, ◌+◌, List, [], ◌∷◌, ◌++◌, map, reverse, vec_items}
+use Rattle.std.specs.Prelude.{ℕ, Bool, true, false, List, [], ◌∷◌, ◌++◌, map, reverse, count_by, vec_items}
 use Rattle.rules.specs.Calls.{Call, mount, close, count, clean, freeze, open_slip, write, delete, read, look, since, since_in, ask_held, ask_label, release, revert, keep_slip, back_slip, Answer}
+use Rattle.rules.specs.Told.{told, tick_value, holding_value, since_value, count_value, size_value}
 use Rattle.line.specs.Line.{Event}
 use Rattle.session.specs.declared.requests.Request.{Request}
 use Rattle.session.specs.declared.requests.Request.TheVariants.{Mount, Close, Count, Clean, Freeze, Open, Write, Delete, Read, Look, Since, SinceIn, Held, Label, Release, Revert, Keep, Back}
-use Rattle.session.specs.declared.requests.Values.{Values}
-use Rattle.session.specs.declared.requests.Values.TheVariants.{Nothing, One, Two}
+use Rattle.session.specs.declared.requests.Value.{Value}
+use Rattle.session.specs.declared.requests.Value.TheVariants as value
 use Rattle.session.specs.declared.requests.Reply.{Reply}
-use Rattle.session.specs.declared.requests.Made.{Made}
-use Rattle.session.specs.declared.said.Said.{Said}
+use Rattle.session.specs.declared.made.Made.{Made}
 
 abbrev pub call_of : Request → Call
 call_of Mount = mount
@@ -30,18 +30,17 @@ call_of (Revert state) = revert state.0
 call_of (Keep state) = keep_slip state.0
 call_of (Back state) = back_slip state.0
 
-abbrev pub values_of : Values → List ℕ
-values_of Nothing = []
-values_of (One x) = x ∷ []
-values_of (Two x y) = x ∷ y ∷ []
+abbrev pub values_of : Value → List ℕ
+values_of (value.Tick t) = tick_value t
+values_of (value.Holding h) = holding_value h
+values_of (value.Since t) = since_value t
+values_of (value.Count c) = count_value c
+values_of (value.Size n) = size_value n
+values_of value.Nothing = []
 
 -- Number and values, with the buffer afterwards.
-abbrev pub said_with : Said → List ℕ → Answer
-said_with said buffer = record { number = said.number; values = values_of said.values; buffer = buffer }
-
 abbrev pub answer_of : Reply → Answer
-answer_of reply =
-    record { number = reply.number; values = values_of reply.values; buffer = vec_items reply.bytes ++ vec_items reply.numbers }
+answer_of reply = told values_of (vec_items reply.bytes ++ vec_items reply.numbers) reply.outcome
 
 abbrev pub event_of : Made → Event
 event_of made = record { call = call_of made.request; answer = answer_of made.reply }
@@ -94,27 +93,30 @@ numbers_of (Revert state) = []
 numbers_of (Keep state) = []
 numbers_of (Back state) = []
 
--- How many slips a call can bring: 1 for an open.
-abbrev pub opens_by : Call → ℕ
-opens_by open_slip = 1
-opens_by mount = 0
-opens_by close = 0
-opens_by count = 0
-opens_by clean = 0
-opens_by freeze = 0
-opens_by (write s given) = 0
-opens_by (delete s) = 0
-opens_by (read s buffer) = 0
-opens_by (look n s buffer) = 0
-opens_by (since s) = 0
-opens_by (since_in n s) = 0
-opens_by (ask_held buffer) = 0
-opens_by (ask_label buffer) = 0
-opens_by (release n) = 0
-opens_by (revert n) = 0
-opens_by (keep_slip n) = 0
-opens_by (back_slip n) = 0
+-- Whether a call can bring a slip.
+abbrev pub gives_slip : Call → Bool
+gives_slip open_slip = true
+gives_slip mount = false
+gives_slip close = false
+gives_slip count = false
+gives_slip clean = false
+gives_slip freeze = false
+gives_slip (write s given) = false
+gives_slip (delete s) = false
+gives_slip (read s buffer) = false
+gives_slip (look n s buffer) = false
+gives_slip (since s) = false
+gives_slip (since_in n s) = false
+gives_slip (ask_held buffer) = false
+gives_slip (ask_label buffer) = false
+gives_slip (release n) = false
+gives_slip (revert n) = false
+gives_slip (keep_slip n) = false
+gives_slip (back_slip n) = false
 
+-- How many slips calls can bring: 1 for an open.
 abbrev pub opens_in : List Call → ℕ
-opens_in [] = 0
-opens_in (c ∷ cs) = opens_by c + opens_in cs
+opens_in cs = count_by gives_slip cs
+
+abbrev pub opens_by : Call → ℕ
+opens_by c = opens_in (c ∷ [])

@@ -1,6 +1,5 @@
 -- Which slips are in hand, by the events alone.
-use Rattle.std.specs.Prelude.{◌≡◌, ℕ, ◌<◌, Bool, true, false, cond, List, [], ◌∷◌, ◌++◌, map, length, Some, None, Option, ◌==◌}
-use Rattle.std.specs.List.{remove, HoldsAt}
+use Rattle.std.specs.Prelude.{◌≡◌, ℕ, Bool, true, false, cond, List, [], ◌∷◌, ◌++◌, map, Some, None, Option, ◌==◌}
 use Rattle.readings.specs.Versions.{has}
 use Rattle.rules.specs.Calls.{Call, mount, close, count, clean, freeze, open_slip, write, delete, read, look, since, since_in, ask_held, ask_label, release, revert, keep_slip, back_slip, Answer}
 use Rattle.line.specs.Line.{Event, first_or}
@@ -64,16 +63,8 @@ slip_number s = s.number.0
 abbrev pub slip_numbers : List Slip → List ℕ
 slip_numbers ss = map slip_number ss
 
--- Where the first slip with number n is in a pile: taken out, the pile is without it.
-pub record Place (n : ℕ) (ss : List Slip) (i : ℕ) : Type 0 where
-  pub within : i < length ss
-  pub has_it : has n (slip_numbers ss) ≡ true
-  pub is_it : HoldsAt (λ s. slip_number s ≡ n) ss i
-  pub rest : slip_numbers (remove ss i) ≡ without n (slip_numbers ss)
-
-abbrev pub Found : ℕ → List Slip → Option ℕ → Type 0
-Found n ss (Some i) = Place n ss i
-Found n ss None = has n (slip_numbers ss) ≡ false
+abbrev pub numbered : ℕ → Slip → Bool
+numbered n s = n == slip_number s
 
 -- The slip with number n was taken out of a pile, if it was there.
 pub record Took (n : ℕ) (ss : List Slip) (slip : Slip) (rest : List Slip) : Type 0 where

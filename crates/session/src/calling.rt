@@ -1,16 +1,32 @@
 // One request, made on the store.
-ghost use Rattle.std.specs.Prelude.{◌≡◌, ◌+◌, ◌≤◌, ◌++◌, vec_len, vec_capacity};
+ghost use Rattle.std.specs.Prelude.{◌≡◌, ◌+◌, ◌<◌, ◌≤◌, true, [], ◌++◌, IfSome, vec_len, vec_capacity};
+ghost use Rattle.rules.specs.Calls.{open_slip};
+ghost use Rattle.rules.specs.Told.{told};
 ghost use Rattle.store.specs.Views.{seen};
-ghost use Rattle.session.specs.Requests.{call_of, bytes_of, numbers_of, opens_by};
+ghost use Rattle.session.specs.Requests.{call_of, bytes_of, numbers_of, opens_by, values_of};
+ghost use Rattle.session.specs.Kinds.{fits};
 ghost use Rattle.session.specs.Slips.{slip_numbers};
-ghost use Rattle.session.specs.Turns.{Turn};
+ghost use Rattle.session.specs.Turns.{Called, Turn};
 
-use crate::requests::Request;
-use crate::said::Said;
-use crate::spending::{back_slip, keep_slip, open_slip};
-use crate::telling::{tell_count, tell_holding, tell_nothing, tell_since, tell_size, tell_tick};
+use crate::hand::take_slip;
+use crate::requests::{Request, Value};
 use chip::Chip;
+use refusals::Refusal;
 use store::{Slip, Store};
+
+// Opens, and puts the slip to the others.
+fn open_slip<C: Chip>(store: &mut Store<C>, slips: &mut Vec<Slip>) -> Result<Value, Refusal>
+    requires { vec_len slips.old < vec_capacity slips.old }
+    ensures kept { C.Chip.kept store.new.chip ≡ C.Chip.kept store.old.chip }
+    ensures capacity { vec_capacity slips.new ≡ vec_capacity slips.old }
+    ensures kind { fits Request.Open result ≡ true }
+    ensures called { Called open_slip (seen store.old) (slip_numbers slips.old.items) (told values_of [] result) (seen store.new) (slip_numbers slips.new.items) }
+{
+    let slip = store.open()?;
+    let number = slip.number();
+    slips.push_reserved(slip);
+    Ok(Value::Tick(number))
+}
 
 // Makes the call, in the buffer that is for it; nothing for a keep or back whose slip is not in hand.
 pub(crate) fn perform<C: Chip>(
@@ -19,36 +35,37 @@ pub(crate) fn perform<C: Chip>(
     request: Request,
     bytes: &mut [u8],
     numbers: &mut [u32],
-) -> Option<Said>
+) -> Option<Result<Value, Refusal>>
     requires room { vec_len slips.old + opens_by (call_of request) ≤ vec_capacity slips.old }
     requires bytes { bytes.old ≡ bytes_of request }
     requires numbers { numbers.old ≡ numbers_of request }
     ensures kept { C.Chip.kept store.new.chip ≡ C.Chip.kept store.old.chip }
     ensures capacity { vec_capacity slips.new ≡ vec_capacity slips.old }
+    ensures kind { IfSome result (λ outcome. fits request.entry outcome ≡ true) }
     ensures turn { Turn (call_of request.entry) (seen store.old) (slip_numbers slips.old.items) (bytes.new ++ numbers.new) result (seen store.new) (slip_numbers slips.new.items) }
 {
     match request {
-        Request::Mount => Some(tell_tick(store.mount())),
-        Request::Close => Some(tell_nothing(store.close())),
-        Request::Count => Some(tell_count(store.count())),
-        Request::Clean => Some(tell_size(store.clean())),
-        Request::Freeze => Some(tell_tick(store.freeze())),
+        Request::Mount => Some(store.mount().map(Value::Tick)),
+        Request::Close => Some(store.close().map(|()| Value::Nothing)),
+        Request::Count => Some(store.count().map(Value::Count)),
+        Request::Clean => Some(store.clean().map(Value::Size)),
+        Request::Freeze => Some(store.freeze().map(Value::Tick)),
         Request::Open => Some(open_slip(store, slips)),
-        Request::Write { sector, given } => Some(tell_tick(store.write(sector, given))),
-        Request::Delete { sector } => Some(tell_tick(store.delete(sector))),
-        Request::Read { sector, buffer: _ } => Some(tell_holding(store.read(sector, bytes))),
-        Request::Look {
-            state,
-            sector,
-            buffer: _,
-        } => Some(tell_holding(store.look(state, sector, bytes))),
-        Request::Since { sector } => Some(tell_since(store.since(sector))),
-        Request::SinceIn { state, sector } => Some(tell_since(store.since_in(state, sector))),
-        Request::Held { buffer: _ } => Some(tell_size(store.held(numbers))),
-        Request::Label { buffer: _ } => Some(tell_size(store.label(bytes))),
-        Request::Release { state } => Some(tell_tick(store.release(state))),
-        Request::Revert { state } => Some(tell_tick(store.revert(state))),
-        Request::Keep { state } => keep_slip(store, slips, state),
-        Request::Back { state } => back_slip(store, slips, state),
+        Request::Write { sector, given } => Some(store.write(sector, given).map(Value::Tick)),
+        Request::Delete { sector } => Some(store.delete(sector).map(Value::Tick)),
+        Request::Read { sector, .. } => Some(store.read(sector, bytes).map(Value::Holding)),
+        Request::Look { state, sector, .. } => {
+            Some(store.look(state, sector, bytes).map(Value::Holding))
+        }
+        Request::Since { sector } => Some(store.since(sector).map(Value::Since)),
+        Request::SinceIn { state, sector } => {
+            Some(store.since_in(state, sector).map(Value::Since))
+        }
+        Request::Held { .. } => Some(store.held(numbers).map(Value::Size)),
+        Request::Label { .. } => Some(store.label(bytes).map(Value::Size)),
+        Request::Release { state } => Some(store.release(state).map(Value::Tick)),
+        Request::Revert { state } => Some(store.revert(state).map(Value::Tick)),
+        Request::Keep { state } => Some(store.keep(take_slip(slips, state)?).map(Value::Tick)),
+        Request::Back { state } => Some(store.back(take_slip(slips, state)?).map(Value::Tick)),
     }
 }

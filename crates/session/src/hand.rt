@@ -1,19 +1,15 @@
 // The slips in hand, in the order of their opens.
-ghost use Rattle.std.specs.Prelude.{◌≡◌, vec_capacity};
-ghost use Rattle.session.specs.Slips.{Found, Taken};
+ghost use Rattle.std.specs.Prelude.{◌≡◌, position, vec_capacity};
+ghost use Rattle.session.specs.Slips.{numbered, Taken};
 
 use rules::Tick;
 use store::Slip;
 
+// Where the slip with this number is.
 fn find_slip(slips: &[Slip], state: Tick) -> Option<usize>
-    ensures { Found state.0 slips.now result }
+    ensures { result ≡ position (numbered state.0) slips.now }
 {
-    for (i, slip) in slips.iter().enumerate() {
-        if slip.number().0 == state.0 {
-            return Some(i);
-        }
-    }
-    None
+    slips.iter().position(|slip| slip.number() == state)
 }
 
 // Takes out the slip with this number, if it is in hand.
@@ -21,8 +17,6 @@ pub(crate) fn take_slip(slips: &mut Vec<Slip>, state: Tick) -> Option<Slip>
     ensures capacity { vec_capacity slips.new ≡ vec_capacity slips.old }
     ensures taken { Taken state.0 slips.old.items result slips.new.items }
 {
-    match find_slip(slips.as_slice(), state) {
-        Some(i) => Some(slips.remove(i)),
-        None => None,
-    }
+    let at = find_slip(slips.as_slice(), state)?;
+    Some(slips.remove(at))
 }

@@ -1,7 +1,8 @@
 // What is asked of a store, and what it answered.
+pub use crate::made::Made;
 use chip::SectorNumber;
 use refusals::Refusal;
-use rules::Tick;
+use rules::{Count, Holding, Tick};
 
 // A call with its arguments. A buffer is the one that is handed over, as it is before the call.
 #[derive(Clone, Copy)]
@@ -56,29 +57,26 @@ pub enum Request<'a> {
     },
 }
 
-// The values of an answer: at most two.
+// What a call that was granted answers.
 #[derive(Clone, Copy, Debug, PartialEq, Eq)]
-pub enum Values {
+pub enum Value {
+    // The clock, or the number of the state that was frozen.
+    Tick(Tick),
+    Holding(Holding),
+    // The birth of what a sector holds, if it holds anything.
+    Since(Option<Tick>),
+    Count(Count),
+    // How many numbers or bytes were filled in, or how many pages were reclaimed.
+    Size(usize),
     Nothing,
-    One(u64),
-    Two(u64, u64),
 }
 
-// What was answered: 0 or the refusal's number, the values, and the buffer afterwards, which is one
-// of bytes or, for held, one of numbers.
+// What was answered, and the buffer afterwards, which is one of bytes or, for held, one of numbers.
 #[derive(Drop)]
 pub struct Reply {
-    pub number: u8,
-    pub values: Values,
+    pub outcome: Result<Value, Refusal>,
     pub bytes: Vec<u8>,
     pub numbers: Vec<u32>,
-}
-
-// A call that was made.
-#[derive(Drop)]
-pub struct Made<'a> {
-    pub request: Request<'a>,
-    pub reply: Reply,
 }
 
 // Why a session made no call.

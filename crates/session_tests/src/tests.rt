@@ -1,8 +1,9 @@
 // A session on a chip: slips that are named, not in hand, and left over.
 use chip::SectorNumber;
 use nor::Nor;
-use rules::Tick;
-use session::{Halt, Made, Request, Values, run_session};
+use refusals::Refusal;
+use rules::{Holding, Tick};
+use session::{Halt, Made, Request, Value, run_session};
 use std::process::Abort;
 use std::test::Fail;
 
@@ -10,14 +11,12 @@ fn answer_is(
     rt: &impl Abort,
     made: &[Made],
     at: usize,
-    number: u8,
-    values: Values,
+    outcome: Result<Value, Refusal>,
 ) -> Result<(), Fail> {
     let Some(call) = made.get(at) else {
         return Err(Fail::new("a call is missing"));
     };
-    assert_eq!(rt; call.reply.number, number);
-    assert_eq!(rt; call.reply.values, values);
+    assert_eq!(rt; call.reply.outcome, outcome);
     Ok(())
 }
 
@@ -52,14 +51,14 @@ fn a_slip_not_in_hand_makes_no_call_and_one_left_over_is_kept(rt: HostRuntime) -
         return Err(Fail::new("no session"));
     };
     assert_eq!(rt; made.len(), 8);
-    answer_is(&rt, made.as_slice(), 0, 0, Values::One(2))?;
-    answer_is(&rt, made.as_slice(), 1, 0, Values::One(3))?;
-    answer_is(&rt, made.as_slice(), 2, 0, Values::One(4))?;
-    answer_is(&rt, made.as_slice(), 3, 0, Values::One(0))?;
-    answer_is(&rt, made.as_slice(), 4, 0, Values::One(5))?;
-    answer_is(&rt, made.as_slice(), 5, 0, Values::One(1))?;
-    answer_is(&rt, made.as_slice(), 6, 0, Values::One(6))?;
-    answer_is(&rt, made.as_slice(), 7, 0, Values::One(7))
+    answer_is(&rt, made.as_slice(), 0, Ok(Value::Tick(Tick(2))))?;
+    answer_is(&rt, made.as_slice(), 1, Ok(Value::Tick(Tick(3))))?;
+    answer_is(&rt, made.as_slice(), 2, Ok(Value::Tick(Tick(4))))?;
+    answer_is(&rt, made.as_slice(), 3, Ok(Value::Holding(Holding::Empty)))?;
+    answer_is(&rt, made.as_slice(), 4, Ok(Value::Tick(Tick(5))))?;
+    answer_is(&rt, made.as_slice(), 5, Ok(Value::Holding(Holding::Data)))?;
+    answer_is(&rt, made.as_slice(), 6, Ok(Value::Tick(Tick(6))))?;
+    answer_is(&rt, made.as_slice(), 7, Ok(Value::Tick(Tick(7))))
 }
 
 #[test]

@@ -1,38 +1,55 @@
-use Rattle.std.proofs.Common.{[], ◌∷◌, sym, refl, ◌∙◌, arith}
-use Rattle.std.proofs.lemmas.List.{append-nil}
-use Rattle.session.specs.Memory.{blank_call}
-use Rattle.session.proofs.Staged.{opens_popped, ready_popped, split_popped, goes_on, goes_as, none_left}
+use Rattle.std.proofs.Common.{List, ℕ, ◌∷◌, ap, ◌∙◌, arith}
+use Rattle.std.proofs.lemmas.List.{with_items_is}
+use Rattle.rules.specs.Told.{told}
+use Rattle.session.specs.Requests.{values_of}
+use Rattle.session.specs.Blanks.{blank_call}
+use Rattle.session.proofs.Staged.{opens_popped, split_popped, pile_bound, on_made, on_left_out, both, goes_on, goes_as, none_left}
 use Rattle.session.proofs.making.make_calls.Goals as goal
 
-pub loop-blank-init : goal.loop-blank-init
-loop-blank-init g c = (c.requires.ready, c.requires.slip_room, c.requires.room, refl, ([], sym (append-nil _), λ label blocks cs st. st))
+pub invariant_of-memory : goal.invariant_of-memory
+invariant_of-memory g c =
+    let opens = opens_popped _ _ _ c.in-Some.ensures.items in
+    let bound = pile_bound _ _ _ _ _ c.loop-blank.memory.slips.items c.perform-outcome.new.slips.items c.perform-outcome.ensures.turn in
+    let same = c.perform-outcome.ensures.capacity in
+    let fewer = c.in-Some.ensures.cases in
+    let long = c.perform-outcome.new.slips.ok.0 in
+    record { slip_room = omega (arith, opens, bound, same, long); room = omega (arith, opens, bound, fewer, long, c.push_reserved.ensures.len, c.push_reserved.ensures.capacity) }
 
-pub make_call-requires : goal.make_call-requires
-make_call-requires g c =
+pub invariant_of-memory-in-None-1 : goal.invariant_of-memory-in-None-1
+invariant_of-memory-in-None-1 g c =
+    let opens = opens_popped _ _ _ c.in-Some.ensures.items in
+    let bound = pile_bound _ _ _ _ _ c.loop-blank.memory.slips.items c.perform-outcome.new.slips.items c.perform-outcome.ensures.turn in
+    let same = c.perform-outcome.ensures.capacity in
+    let fewer = c.in-Some.ensures.cases in
+    let long = c.perform-outcome.new.slips.ok.0 in
+    record { slip_room = omega (arith, opens, bound, same, long); room = omega (arith, opens, bound, fewer, long) }
+
+pub loop-blank-preserved-in-Some-outcome : goal.loop-blank-preserved-in-Some-outcome
+loop-blank-preserved-in-Some-outcome g c =
     let inv = c.loop-blank.invariant in
-    let p = c.in-Some.ensures in
-    let opens = opens_popped _ _ _ p.items in
+    let popped = c.in-Some.ensures.items in
+    let bytes = with_items_is c.in-Some.blank.bytes c.perform-outcome.new.bytes (omega (arith, c.perform-outcome.auto.bytes, c.as_mut_slice.ensures.len)) in
+    let numbers = with_items_is c.in-Some.blank.numbers c.perform-outcome.new.numbers (omega (arith, c.perform-outcome.auto.numbers, c.as_mut_slice-in-Some.ensures.len)) in
+    let told = ap (λ (buffer : List ℕ). told values_of buffer c.in-Some-outcome.outcome) (both bytes numbers) in
     record {
-      ready = (ready_popped _ _ _ p.items inv.0).1;
-      slip_room = omega (arith, opens, inv.1);
-      room = omega (arith, p.cases, inv.2);
+      kept = c.perform-outcome.ensures.kept ∙ inv.kept;
+      made = blank_call c.in-Some.blank ∷ inv.made;
+      split = split_popped _ _ _ popped _ _ inv.split;
+      goes = goes_on _ _ _ _ _ _ _ _ _ _ _ inv.goes (on_made _ _ _ _ _ _ _ _ c.push_reserved.ensures.items told c.in-Some-outcome.ensures.turn);
     }
 
 pub loop-blank-preserved : goal.loop-blank-preserved
 loop-blank-preserved g c =
     let inv = c.loop-blank.invariant in
-    let p = c.in-Some.ensures in
-    let e = c.make_call.ensures in
-    let opens = opens_popped _ _ _ p.items in (
-      (ready_popped _ _ _ p.items inv.0).0,
-      omega (arith, opens, inv.1, e.slip_bound, e.slip_capacity),
-      omega (arith, opens, inv.2, e.slip_bound, e.bound, e.capacity, p.cases),
-      e.kept ∙ inv.3,
-      (blank_call c.in-Some.blank ∷ inv.4.0, split_popped _ _ _ p.items _ _ inv.4.1, goes_on _ _ _ _ _ _ _ _ _ _ _ inv.4.2 e.goes),
-    )
+    record {
+      kept = c.perform-outcome.ensures.kept ∙ inv.kept;
+      made = blank_call c.in-Some.blank ∷ inv.made;
+      split = split_popped _ _ _ c.in-Some.ensures.items _ _ inv.split;
+      goes = goes_on _ _ _ _ _ _ _ _ _ _ _ inv.goes (on_left_out _ _ _ _ _ _ c.in_default-outcome.ensures.turn);
+    }
 
-pub returns : goal.returns
-returns g c =
+pub returns-clause-goes : goal.returns-clause-goes
+returns-clause-goes g c =
     let inv = c.loop-blank.invariant in
-    let all = none_left _ _ _ _ c.loop-blank.blanks.ok.0 c.in_default.ensures.cases.0 inv.4.1 in
-    record { kept = inv.3; room = omega (arith, inv.2); goes = goes_as _ _ _ _ _ _ _ _ all inv.4.2 }
+    let all = none_left _ _ _ _ c.loop-blank.memory.blanks.ok.0 c.in_default.ensures.cases.0 inv.split in
+    goes_as _ _ _ _ _ _ _ _ all inv.goes
