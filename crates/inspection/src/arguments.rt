@@ -16,14 +16,22 @@ pub enum Make {
     Nor,
 }
 
+impl Make {
+    pub fn name(self) -> &'static str
+        ensures { result.now ≡ name_of self }
+    {
+        match self {
+            Make::Nand => "nand",
+            Make::Nor => "nor",
+        }
+    }
+}
+
 impl fmt::Display for Make {
     ghost output = { λ make. Some (name_of make) };
 
     fn fmt<W: fmt::Write>(&self, f: &mut fmt::Formatter<W>) -> fmt::Result {
-        f.write_str(match self {
-            Make::Nand => "nand",
-            Make::Nor => "nor",
-        })
+        f.write_str(self.name())
     }
 }
 
