@@ -14,6 +14,12 @@ use refusals::Refusal;
 use rules::Tick;
 use tables::Index;
 
+pub(crate) fn refuse_if(test: bool, refusal: Refusal) -> Result<(), Refusal>
+    ensures { MatchResult result (λ _. test ≡ false) (λ f. (f ≡ refusal) × (test ≡ true)) }
+{
+    if test { Err(refusal) } else { Ok(()) }
+}
+
 pub(crate) fn check_sector(sector: SectorNumber) -> Result<Sector, Refusal>
     ensures { MatchResult result (λ s. (s.number ≡ sector.0) × (nat_lt 2047 sector.0 ≡ false)) (λ f. (f ≡ NoSuchSector) × (nat_lt 2047 sector.0 ≡ true)) }
 {
@@ -23,11 +29,7 @@ pub(crate) fn check_sector(sector: SectorNumber) -> Result<Sector, Refusal>
 pub(crate) fn check_length(given: usize, wanted: usize) -> Result<(), Refusal>
     ensures { MatchResult result (λ _. (given == wanted) ≡ true) (λ f. (f ≡ BufferLength) × ((given == wanted) ≡ false)) }
 {
-    if given == wanted {
-        Ok(())
-    } else {
-        Err(Refusal::BufferLength)
-    }
+    refuse_if(given != wanted, Refusal::BufferLength)
 }
 
 // The bytes of a sector.
@@ -40,22 +42,14 @@ pub(crate) fn block_of(given: &[u8]) -> Result<[u8; DATA_BYTES], Refusal>
 pub(crate) fn check_held(ix: &Index, state: Tick) -> Result<(), Refusal>
     ensures { MatchResult result (λ _. has state.0 (held_of ix.now.held) ≡ true) (λ f. (f ≡ NotHeld) × (has state.0 (held_of ix.now.held) ≡ false)) }
 {
-    if is_held(&ix.held, state.0) {
-        Ok(())
-    } else {
-        Err(Refusal::NotHeld)
-    }
+    refuse_if(!is_held(&ix.held, state.0), Refusal::NotHeld)
 }
 
 // A tick is left.
 pub(crate) fn check_ticks(ix: &Index) -> Result<(), Refusal>
     ensures { MatchResult result (λ _. (ix.now.clock == 4294967294) ≡ false) (λ f. (f ≡ OutOfTicks) × ((ix.now.clock == 4294967294) ≡ true)) }
 {
-    if ix.clock == LAST_BIRTH {
-        Err(Refusal::OutOfTicks)
-    } else {
-        Ok(())
-    }
+    refuse_if(ix.clock == LAST_BIRTH, Refusal::OutOfTicks)
 }
 
 // The most versions that a store on the chip keeps.
@@ -69,9 +63,5 @@ pub(crate) fn capacity_of<C: Chip>(chip: &C) -> usize
 pub(crate) fn check_room<C: Chip>(chip: &C, ix: &Index, sector: Sector) -> Result<(), Refusal>
     ensures { MatchResult result (λ _. nat_lt (capacity (C.Chip.blocks chip.now) C.Chip.per) (needed_after ix.now sector.number) ≡ false) (λ f. (f ≡ Full) × (nat_lt (capacity (C.Chip.blocks chip.now) C.Chip.per) (needed_after ix.now sector.number) ≡ true)) }
 {
-    if capacity_of(chip) < needed_after(ix, sector) {
-        Err(Refusal::Full)
-    } else {
-        Ok(())
-    }
+    refuse_if(capacity_of(chip) < needed_after(ix, sector), Refusal::Full)
 }

@@ -6,6 +6,7 @@ ghost use Rattle.refusals.specs.declared.types.Refusal.TheVariants.{ChipSize, La
 ghost use Rattle.mounting.specs.Mounted.{verdict_in};
 ghost use Rattle.calls.specs.Opening.{Begins, Reopened};
 
+use crate::checks::refuse_if;
 use changing::format_chip;
 use chip::Chip;
 use limits::Label;
@@ -18,11 +19,10 @@ fn check_size<C: Chip>(chip: &C) -> Result<(), Refusal>
     ensures { MatchResult result (λ _. size_fits (C.Chip.blocks chip.now) C.Chip.per ≡ true) (λ f. (f ≡ ChipSize) × (size_fits (C.Chip.blocks chip.now) C.Chip.per ≡ false)) }
 {
     let blocks = chip.size();
-    if blocks < 2 || blocks * C::block_pages() > MOST_PAGES {
-        Err(Refusal::ChipSize)
-    } else {
-        Ok(())
-    }
+    refuse_if(
+        blocks < 2 || blocks * C::block_pages() > MOST_PAGES,
+        Refusal::ChipSize,
+    )
 }
 
 fn check_label(text: &[u8]) -> Result<Label, Refusal>
