@@ -27,6 +27,7 @@ impl<C: Chip> Store<C> {
     }
 
     // Erases the chip, makes an empty store with this label on it, and opens it.
+    // (It ends as mount does: a helper for these three lines would have to ask that the memory be sound.)
     pub fn format(&mut self, label: &[u8]) -> Result<Tick, Refusal>
         ensures kept { C.Chip.kept self.new.chip ≡ C.Chip.kept self.old.chip }
         ensures does { Formats label.now (seen self.old) (told tick_value [] result) (seen self.new) }
