@@ -1,5 +1,5 @@
 -- What the page of a version holds.
-use Rattle.std.proofs.Common.{◌≡◌, ℕ, ◌<◌, Bool, true, false, cond, not, List, [], ◌∷◌, length, get_or, take, is_some, Some, None, Option, sym, refl, ap, ◌∙◌, subst, arith}
+use Rattle.std.proofs.Common.{◌≡◌, ℕ, ◌<◌, Bool, true, false, cond, List, [], ◌∷◌, length, get_or, take, Some, None, Option, sym, refl, ap, ◌∙◌, subst, arith}
 use mathlib.Core.Option as opt
 use Rattle.std.proofs.lemmas.Bool.{both_ways}
 use Rattle.chip.specs.declared.PageNumber.{PageNumber}
@@ -11,7 +11,7 @@ use Rattle.tables.specs.declared.index.Index.{Index}
 use Rattle.tables.specs.Records.{unused, kind_of, Agrees}
 use Rattle.keeping.specs.Opened.{Opened}
 use Rattle.noting.specs.Lookups.{Shows}
-use Rattle.rules.specs.Calls.{granted, shown, born_at, is_none, read_answer}
+use Rattle.rules.specs.Calls.{granted, shown, born_at, read_answer}
 use Rattle.rules.specs.Told.{holding_value, since_value}
 use Rattle.calls.specs.Holds.{is_data, data_page, HasData, HasNone, Holds, fetched, Fills, born_of}
 
@@ -85,13 +85,6 @@ holds_data blocks per pages ix o (Some p) w h = go (is_data (get_or ix.records p
     go : (b : Bool) → is_data (get_or ix.records p.0 unused).kind ≡ b → Holds pages ix w (cond b (Some p) None)
     go true e = data_held blocks per pages ix o p w h e
     go false e = none_held blocks per pages ix o p w h e
-
--- Whether a sector is empty, by the page with its data.
-pub empty_test : (pages : List Page) (ix : Index) (w : opt.Option Version) (p : Option PageNumber) (b : Bool) → Holds pages ix w p → is_some p ≡ not b → is_none (shown w) ≡ b
-empty_test pages ix w None true h e = ap is_none h.shows
-empty_test pages ix w None false h e = absurd (both_ways false refl e)
-empty_test pages ix w (Some p) true h e = absurd (both_ways true (sym (sym e)) refl)
-empty_test pages ix w (Some p) false h e = ap is_none h.shows
 
 -- What a read answers, by the page with the data.
 pub read_answer_lem : (pages : List Page) (ix : Index) (w : opt.Option Version) (p : Option PageNumber) (buffer : List ℕ) → Holds pages ix w p → Fills pages p buffer →

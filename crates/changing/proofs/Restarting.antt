@@ -108,15 +108,3 @@ module _ (blocks per : ℕ) (pages : List Page) (ix : Index) (link last_birth : 
     spare_block = subst (λ (b : BlockNumber). b.0 < blocks) (sym spare) sound.spare_block;
     spare_erased = subst (λ (b : BlockNumber). (j : ℕ) → j < per → is_erased (get_or pages' (b.0 * per + j) []) ≡ true) (sym spare) (spare_stays per ix.spare.0 pages k x outside sound.spare_erased);
   }
-
--- One more link.
-pub unlinked_more : (old now : List Record) (n k : ℕ) (r : Record) → k < length now → r ≡ unlinked n (get_or now k unused) →
-    ((j : ℕ) → j < k → get_or now j unused ≡ unlinked n (get_or old j unused)) → ((j : ℕ) → k ≤ j → get_or now j unused ≡ get_or old j unused) →
-    ((j : ℕ) → j < k + 1 → get_or (set now k r) j unused ≡ unlinked n (get_or old j unused)) × ((j : ℕ) → k + 1 ≤ j → get_or (set now k r) j unused ≡ get_or old j unused)
-unlinked_more old now n k r h is before behind = (
-  (λ j m. elim (cases_eq j k) [
-    | inl e ↦ ap (λ i. get_or (set now k r) i unused) e ∙ get_or-set_same now k r unused h ∙ is ∙ ap (unlinked n) (behind k (omega arith)) ∙ ap (λ i. unlinked n (get_or old i unused)) (sym e)
-    | inr ne ↦ get_or-set_other now k j r unused ne ∙ before j (omega arith)
-  ]),
-  (λ j l. get_or-set_other now k j r unused (λ e. omega arith) ∙ behind j (omega arith)),
-)

@@ -1,8 +1,8 @@
 -- Memory, rewound to a held number.
-use Rattle.std.proofs.Common.{◌≡◌, ℕ, zero, suc, ◌<◌, ◌≤◌, min, Bool, true, false, cond, ◌&&◌, eqb, ltb, leb, List, [], ◌∷◌, length, get_or, set, Some, None, MatchBool, Option, sym, refl, ap, ◌∙◌, subst, inl, inr, arith}
+use Rattle.std.proofs.Common.{◌≡◌, ℕ, zero, suc, ◌<◌, ◌≤◌, min, Bool, true, false, cond, ◌&&◌, eqb, ltb, leb, List, [], ◌∷◌, length, get_or, Some, None, MatchBool, Option, sym, refl, ap, ◌∙◌, subst, inl, inr, arith}
 use mathlib.Core.Option as opt
-use Rattle.std.proofs.lemmas.List.{get_or_past, get_or-set_same, get_or-set_other}
-use Rattle.std.proofs.lemmas.Bool.{cases_eq, cond_both, cond-true, cond-false, and_from, and_left, and_right, ne_eqb, eq-eqb, le-leb, le-ltb, lt-ltb}
+use Rattle.std.proofs.lemmas.List.{get_or_past}
+use Rattle.std.proofs.lemmas.Bool.{cond_both, and_from, eq-eqb, le-leb, le-ltb, lt-ltb}
 use Rattle.chip.specs.declared.PageNumber.{PageNumber}
 use Rattle.chip.specs.Pages.{Page}
 use Rattle.limits.specs.declared.types.Bounded.{Bounded}
@@ -124,34 +124,3 @@ module _ (records : List Record) (long : length records ≡ 2048) (n : ℕ) wher
       go : (t : Bool) (f : Found) → cond t k (map_entry f.page) ≡ map_entry (cond t (record { page = Some (page_number k); birth = (at k).birth }) f).page
       go true f = omega arith
       go false f = refl
-
--- One page, entered or not.
-module _ (records : List Record) (n k : ℕ) (r : Record) (is : r ≡ get_or records k unused) (map : List ℕ) where
-  abbrev was : ℕ → ℕ
-  was s = get_or map s 0
-
-  abbrev test : ℕ → Bool
-  test s = is_born_within (get_or records (was s) unused).birth n (get_or records k unused)
-
-  pub other_sector : (s : ℕ) → (r.sector ≡ s → ⊥) → was s ≡ entered records n k s (was s)
-  other_sector s ne =
-      sym (cond-false (eqb (get_or records k unused).sector s && test s) k (was s) (and_left (eqb (get_or records k unused).sector s) (test s) (ne_eqb (get_or records k unused).sector s (λ e. ne (ap (λ (r : Record). r.sector) is ∙ e)))))
-
-  module _ (r' : Record) (former : r' ≡ get_or records (was r.sector) unused) where
-    same : (b : Bool) → b ≡ is_born_within r'.birth n r → test r.sector ≡ b
-    same b e = sym (e ∙ (λ i. is_born_within (former i).birth n (is i)))
-
-    pub not_entered : false ≡ is_born_within r'.birth n r → (s : ℕ) → was s ≡ entered records n k s (was s)
-    not_entered e s = elim (cases_eq r.sector s) [
-      | inl q ↦ sym (cond-false (eqb (get_or records k unused).sector s && test s) k (was s) (and_right (eqb (get_or records k unused).sector s) (test s) (ap test (sym q) ∙ same false e)))
-      | inr ne ↦ other_sector s ne
-    ]
-
-    pub is_entered : r.sector < length map → true ≡ is_born_within r'.birth n r → (s : ℕ) → get_or (set map r.sector k) s 0 ≡ entered records n k s (was s)
-    is_entered h e s = elim (cases_eq s r.sector) [
-      | inl q ↦
-          ap (λ i. get_or (set map r.sector k) i 0) q ∙ get_or-set_same map r.sector k 0 h
-          ∙ sym (cond-true (eqb (get_or records k unused).sector s && test s) k (was s) (and_from (eqb (get_or records k unused).sector s) (test s)
-          (eq-eqb (get_or records k unused).sector s (sym (q ∙ ap (λ (r : Record). r.sector) is))) (ap test q ∙ same true e)))
-      | inr ne ↦ get_or-set_other map r.sector s k 0 ne ∙ other_sector s (λ e. ne (sym e))
-    ]

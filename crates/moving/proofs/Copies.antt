@@ -16,18 +16,6 @@ use Rattle.moving.proofs.Says.{shown_stays, sector_of}
 pub not_both : (r : Answer) (e : ChipFault) → r ≡ Err e → r ≡ Ok tt → ⊥
 not_both r e p q = let z : ◌≡◌ {A = ℕ} 0 1 = cc in omega arith
 
-pub origin_none : (stay : ℕ → Bool) (from to k : ℕ) → origin stay from to 0 k ≡ k
-origin_none stay from to k = elim (in_or_out to 0 k) [ inl x ↦ let a = x.1 in absurd (omega arith) | inr o ↦ origin_out stay from to 0 k o ]
-
-pub copied_none : (stay : ℕ → Bool) (from to : ℕ) (pages : List Page) (ix : Index) → Copied stay from to 0 pages ix pages ix
-copied_none stay from to pages ix =
-    record {
-      long = refl;
-      pages_are = λ k. ap (λ j. get_or pages j []) (sym (origin_none stay from to k));
-      records_are = λ k. ap (λ j. get_or ix.records j unused) (sym (origin_none stay from to k));
-      map_is = λ s h. let m = get_or ix.map s 0 in elim (in_or_out from 0 m) [ inl x ↦ let a = x.1 in absurd (omega arith) | inr o ↦ sym (shifted_out from to 0 m o) ];
-    }
-
 -- One more, of pages and of records alike.
 module _ {A : Type 0} (d : A) (stay : ℕ → Bool) (from to i : ℕ) (xs ys : List A) (are : (k : ℕ) → get_or ys k d ≡ get_or xs (origin stay from to i k) d) where
   pub list_left : stay (from + i) ≡ false → (k : ℕ) → get_or ys k d ≡ get_or xs (origin stay from to (i + 1) k) d
