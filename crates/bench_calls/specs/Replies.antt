@@ -9,7 +9,7 @@ use Rattle.session.specs.declared.requests.Request.{Request}
 use Rattle.session.specs.declared.requests.Request.TheVariants.{Mount, Close, Count, Clean, Freeze, Open, Write, Delete, Read, Look, Since, SinceIn, Held, Label, Release, Revert, Keep, Back}
 use Rattle.session.specs.declared.requests.Value.{Value}
 use Rattle.session.specs.declared.requests.Value.TheVariants as value
-use Rattle.session.specs.declared.made.Made.{Made}
+use Rattle.session.specs.declared.requests.Made.{Made}
 
 abbrev pub head_of : List ℕ → Option ℕ
 head_of [] = None
