@@ -5,7 +5,7 @@ use Rattle.chip.specs.Pages.{Page}
 use Rattle.readings.specs.Mount.{capacity}
 use Rattle.line.specs.Law.{Lawful}
 use Rattle.session.specs.declared.requests.Request.{Request}
-use Rattle.session.specs.declared.made.Made.{Made}
+use Rattle.session.specs.declared.requests.Made.{Made}
 use Rattle.session.specs.declared.requests.Halt.{Halt}
 use Rattle.session.specs.Requests.{events_of}
 use Rattle.session.specs.Sessions.{Ended}

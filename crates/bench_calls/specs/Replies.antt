@@ -1,32 +1,49 @@
 -- What the answers say in the rows.
-use Rattle.std.specs.Prelude.{ℕ, min, Bool, true, false, not, List, [], ◌∷◌, map, filter, Some, None, Ok, Err, vec_items, Option, Result}
-use Rattle.std.specs.Option.{option_map}
+use Rattle.std.specs.Prelude.{ℕ, min, Bool, true, false, not, cond, List, [], ◌∷◌, map, filter, Some, None, Ok, Err, vec_items, Option, Result, ◌==◌}
 use Rattle.refusals.specs.declared.types.Refusal.{Refusal}
-use Rattle.rules.specs.declared.types.Holding.TheVariants.{Data, Empty}
-use Rattle.rules.specs.declared.types.Tick.{Tick}
-use Rattle.bench_lines.specs.Replies.{Shown}
+use Rattle.refusals.specs.Numbers.{verdict_of}
+use Rattle.bench_lines.specs.declared.replies.Reply as shown
 use Rattle.session.specs.declared.requests.Request.{Request}
 use Rattle.session.specs.declared.requests.Request.TheVariants.{Mount, Close, Count, Clean, Freeze, Open, Write, Delete, Read, Look, Since, SinceIn, Held, Label, Release, Revert, Keep, Back}
 use Rattle.session.specs.declared.requests.Value.{Value}
-use Rattle.session.specs.declared.requests.Value.TheVariants as value
-use Rattle.session.specs.declared.made.Made.{Made}
+use Rattle.session.specs.declared.requests.Made.{Made}
+use Rattle.session.specs.Requests.{values_of}
+
+-- The value of an answer that has one.
+abbrev pub one_in : List ℕ → Option ℕ
+one_in [] = None
+one_in (x ∷ []) = Some (min x 4294967295)
+one_in (x ∷ y ∷ zs) = None
 
 abbrev pub head_of : List ℕ → Option ℕ
 head_of [] = None
 head_of (b ∷ bs) = Some b
 
-abbrev pub number_of : Tick → ℕ
-number_of t = t.0
+-- The first byte of a sector, where the answer says 1: data.
+abbrev pub first_byte : List ℕ → List ℕ → Option ℕ
+first_byte [] bytes = None
+first_byte (x ∷ []) bytes = cond (x == 1) (head_of bytes) None
+first_byte (x ∷ y ∷ zs) bytes = None
 
--- What an answer shows: the first byte of a sector with data, or its number.
-abbrev pub value_in : Value → List ℕ → Option ℕ
-value_in (value.Tick t) bytes = Some (number_of t)
-value_in (value.Holding Data) bytes = head_of bytes
-value_in (value.Holding Empty) bytes = None
-value_in (value.Since t) bytes = option_map number_of t
-value_in (value.Count c) bytes = None
-value_in (value.Size n) bytes = Some (min n 4294967295)
-value_in value.Nothing bytes = None
+abbrev pub is_read : Request → Bool
+is_read (Read sector buffer) = true
+is_read (Look state sector buffer) = true
+is_read Mount = false
+is_read Close = false
+is_read Count = false
+is_read Clean = false
+is_read Freeze = false
+is_read Open = false
+is_read (Write sector given) = false
+is_read (Delete sector) = false
+is_read (Since sector) = false
+is_read (SinceIn state sector) = false
+is_read (Held buffer) = false
+is_read (Label buffer) = false
+is_read (Release state) = false
+is_read (Revert state) = false
+is_read (Keep state) = false
+is_read (Back state) = false
 
 abbrev pub is_close : Request → Bool
 is_close Close = true
@@ -48,14 +65,18 @@ is_close (Revert state) = false
 is_close (Keep state) = false
 is_close (Back state) = false
 
--- A refusal stays one.
-abbrev pub shown : Result Value Refusal → List ℕ → Shown
-shown (Ok v) bytes = Ok (value_in v bytes)
-shown (Err refusal) bytes = Err refusal
+-- A granted read or look shows the first byte, any other granted call its value.
+abbrev pub value_of : Request → Value → List ℕ → Option ℕ
+value_of request value bytes = cond (is_read request) (first_byte (values_of value) bytes) (one_in (values_of value))
 
-abbrev pub reply_to : Made → Shown
-reply_to made = shown made.reply.outcome (vec_items made.reply.bytes)
+-- A refusal has a number and no value.
+abbrev pub shown_as : Request → Result Value Refusal → List ℕ → shown.Reply
+shown_as request (Ok value) bytes = record { number = 0; value = value_of request value bytes }
+shown_as request (Err refusal) bytes = record { number = (verdict_of refusal).number; value = None }
+
+abbrev pub reply_to : Made → shown.Reply
+reply_to made = shown_as made.request made.reply.outcome (vec_items made.reply.bytes)
 
 -- The close of a remount shows nothing.
-abbrev pub replies_to : List Made → List Shown
+abbrev pub replies_to : List Made → List shown.Reply
 replies_to ms = map reply_to (filter (λ m. not (is_close m.request)) ms)

@@ -4,7 +4,7 @@ use Rattle.bench_lines.specs.Lines.{commands_in}
 use Rattle.bench_lines.specs.Replies.{rows_of}
 use Rattle.line.specs.Law.{Lawful}
 use Rattle.session.specs.declared.requests.Request.{Request}
-use Rattle.session.specs.declared.made.Made.{Made}
+use Rattle.session.specs.declared.requests.Made.{Made}
 use Rattle.session.specs.Requests.{call_of, events_of}
 use Rattle.session.specs.Sessions.{Conducted}
 use Rattle.bench_calls.specs.Calls.{calls_in}

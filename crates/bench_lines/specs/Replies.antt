@@ -1,9 +1,8 @@
 -- What the program prints: a row for each line of its input.
-use Rattle.std.specs.Prelude.{ℕ, List, [], ◌∷◌, ◌++◌, Some, None, Ok, Err, codes, decimal, Option, Result}
-use Rattle.refusals.specs.declared.types.Refusal.{Refusal}
-use Rattle.refusals.specs.Numbers.{verdict_of}
+use Rattle.std.specs.Prelude.{ℕ, List, [], ◌∷◌, ◌++◌, Some, None, codes, decimal, Option}
 use Rattle.bench_lines.specs.declared.commands.Command.{Command}
 use Rattle.bench_lines.specs.declared.commands.Command.TheVariants.{Write, Delete, Read, Look, Freeze, Release, Revert, Clean, Remount}
+use Rattle.bench_lines.specs.declared.replies.Reply.{Reply}
 
 abbrev pub letter_of : Command → List ℕ
 letter_of (Write sector fill) = codes "w"
@@ -26,18 +25,13 @@ line_of [] = 10 ∷ []
 line_of (word ∷ []) = word ++ (10 ∷ [])
 line_of (word ∷ next ∷ words) = word ++ (32 ∷ line_of (next ∷ words))
 
--- What the store replied: the value, if a granted command has any, or why it was refused.
-abbrev pub Shown : Type 0
-Shown = Result (Option ℕ) Refusal
-
--- The row of a command: its letter, 0 or the refusal's number, and the value or `-`.
-abbrev pub row_of : Command → Shown → List ℕ
-row_of command (Ok value) = line_of (letter_of command ∷ codes "0" ∷ value_text value ∷ [])
-row_of command (Err refusal) = line_of (letter_of command ∷ decimal (verdict_of refusal).number ∷ codes "-" ∷ [])
+-- The row of a command: its letter, the number of the reply, and the value or `-`.
+abbrev pub row_of : Command → Reply → List ℕ
+row_of command reply = line_of (letter_of command ∷ decimal reply.number ∷ value_text reply.value ∷ [])
 
 -- The row of each line: `?` where the line is no command, else the row of the command with the next reply.
 -- The rows end where the replies run out.
-abbrev pub rows_of : List (Option Command) → List Shown → List ℕ
+abbrev pub rows_of : List (Option Command) → List Reply → List ℕ
 rows_of [] replies = []
 rows_of (None ∷ lines) replies = line_of (codes "?" ∷ []) ++ rows_of lines replies
 rows_of (Some command ∷ lines) [] = []

@@ -3,24 +3,25 @@ ghost use Rattle.std.specs.Prelude.{◌≡◌, ◌++◌, IfOk, string_bytes, OnO
 ghost use Rattle.bench_lines.specs.Replies.{row_of, rows_of};
 
 use crate::commands::Command;
-use refusals::Refusal;
 use std::alloc::{AllocError, Global};
 
-// What the store replied to a command: the value, if a granted one has any, or why it was refused.
-pub type Reply = Result<Option<u32>, Refusal>;
+// What the store replied to a command: the number of the outcome, and the value if it has one.
+// (No `Result`: a row shows any number with any value.)
+#[derive(Clone, Copy, Debug, PartialEq, Eq)]
+pub struct Reply {
+    pub number: u8,
+    pub value: Option<u32>,
+}
 
-// The row of a command: its letter, 0 or the refusal's number, and the value or `-`.
+// The row of a command: its letter, the number of the reply, and the value or `-`.
 pub fn row(heap: Global, command: Command, reply: Reply) -> Result<String, AllocError>
     ensures { IfOk result (λ text. string_bytes text ≡ row_of command reply) }
 {
     let letter = command.letter();
-    match reply {
-        Ok(Some(value)) => format!(in heap; "{letter} 0 {value}\n"),
-        Ok(None) => format!(in heap; "{letter} 0 -\n"),
-        Err(refusal) => {
-            let number = refusal.number();
-            format!(in heap; "{letter} {number} -\n")
-        }
+    let number = reply.number;
+    match reply.value {
+        Some(value) => format!(in heap; "{letter} {number} {value}\n"),
+        None => format!(in heap; "{letter} {number} -\n"),
     }
 }
 
@@ -48,6 +49,7 @@ pub fn rows(
 {
     let mut text = String::new(heap);
     let mut replies = replies.iter();
+    // No chain: each push can fail, and the rows can end early.
     for line in lines {
         match line {
             None => text.push_str("?\n")?,

@@ -6,7 +6,6 @@ mod tests {
     use bench_lines::commands::{Command, parse_command};
     use bench_lines::lines::parse_lines;
     use bench_lines::replies::{Reply, row, rows};
-    use refusals::Refusal;
     use std::alloc::Global;
     use std::process::Abort;
     use std::test::Fail;
@@ -154,10 +153,11 @@ mod tests {
         rt: &impl Abort,
         heap: Global,
         command: Command,
-        reply: Reply,
+        number: u8,
+        value: Option<u32>,
         expected: &str,
     ) -> Result<(), Fail> {
-        let text = row(heap, command, reply)?;
+        let text = row(heap, command, Reply { number, value })?;
         assert!(rt; text.as_str() == expected, "{}", expected);
         Ok(())
     }
@@ -170,18 +170,15 @@ mod tests {
             state: 8,
             sector: 9,
         };
-        let too_many = Err(Refusal::TooManyHeld);
-        let not_held = Err(Refusal::NotHeld);
-        let chip_size = Err(Refusal::ChipSize);
-        expect_row(&rt, heap, write, Ok(Some(2)), "w 0 2\n")?;
-        expect_row(&rt, heap, Command::Delete(9), too_many, "d 10 -\n")?;
-        expect_row(&rt, heap, Command::Read(9), Ok(Some(0)), "r 0 0\n")?;
-        expect_row(&rt, heap, look, Ok(Some(4294967295)), "l 0 4294967295\n")?;
-        expect_row(&rt, heap, Command::Freeze, Ok(Some(17)), "f 0 17\n")?;
-        expect_row(&rt, heap, Command::Release(9), Ok(None), "x 0 -\n")?;
-        expect_row(&rt, heap, Command::Revert(9), not_held, "v 9 -\n")?;
-        expect_row(&rt, heap, Command::Clean, Ok(Some(1)), "c 0 1\n")?;
-        expect_row(&rt, heap, Command::Remount, chip_size, "z 3 -\n")
+        expect_row(&rt, heap, write, 0, Some(2), "w 0 2\n")?;
+        expect_row(&rt, heap, Command::Delete(9), 10, None, "d 10 -\n")?;
+        expect_row(&rt, heap, Command::Read(9), 0, Some(0), "r 0 0\n")?;
+        expect_row(&rt, heap, look, 255, Some(4294967295), "l 255 4294967295\n")?;
+        expect_row(&rt, heap, Command::Freeze, 0, Some(17), "f 0 17\n")?;
+        expect_row(&rt, heap, Command::Release(9), 0, None, "x 0 -\n")?;
+        expect_row(&rt, heap, Command::Revert(9), 9, None, "v 9 -\n")?;
+        expect_row(&rt, heap, Command::Clean, 0, Some(1), "c 0 1\n")?;
+        expect_row(&rt, heap, Command::Remount, 3, None, "z 3 -\n")
     }
 
     fn expect_rows(
@@ -200,8 +197,14 @@ mod tests {
     #[test]
     fn prints_rows_until_replies_run_out(rt: HostRuntime) -> Result<(), Fail> {
         let heap = rt.alloc();
-        let first = Ok(Some(2));
-        let refusal = Err(Refusal::NotHeld);
+        let first = Reply {
+            number: 0,
+            value: Some(2),
+        };
+        let refusal = Reply {
+            number: 9,
+            value: None,
+        };
         let input = b"w 1 2\nw 1\nv 5\n\nf\nno\n";
         expect_rows(&rt, heap, b"", &[first], "")?;
         expect_rows(&rt, heap, input, &[], "")?;

@@ -28,10 +28,7 @@ fn check_size<C: Chip>(chip: &C) -> Result<(), Refusal>
 fn check_label(text: &[u8]) -> Result<Label, Refusal>
     ensures { MatchResult result (λ l. (label_of l ≡ text.now) × (nat_lt 32 (length text.now) ≡ false)) (λ f. (f ≡ LabelLength) × (nat_lt 32 (length text.now) ≡ true)) }
 {
-    match Label::new(text) {
-        Some(label) => Ok(label),
-        None => Err(Refusal::LabelLength),
-    }
+    Label::new(text).ok_or(Refusal::LabelLength)
 }
 
 // Erases the chip and makes an empty store with this label on it; answers the tables of the store.
@@ -42,10 +39,7 @@ pub fn format<C: Chip>(chip: &mut C, label: &[u8]) -> Result<Index, Refusal>
 {
     check_size(chip)?;
     let label = check_label(label)?;
-    match format_chip(chip, label) {
-        Ok(index) => Ok(index),
-        Err(_) => Err(Refusal::NotAStore),
-    }
+    Ok(format_chip(chip, label)?)
 }
 
 // The tables of the store on the chip, or why there is none.

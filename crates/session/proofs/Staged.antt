@@ -14,7 +14,7 @@ use Rattle.store.specs.declared.slips.Slip.{Slip}
 use Rattle.session.specs.declared.blank.Blank.{Blank}
 use Rattle.session.specs.declared.requests.Request.{Request}
 use Rattle.session.specs.declared.requests.Value.{Value}
-use Rattle.session.specs.declared.made.Made.{Made}
+use Rattle.session.specs.declared.requests.Made.{Made}
 use Rattle.session.specs.Requests.{call_of, calls_of, values_of, answer_of, event_of, events_of, gives_slip, opens_by, opens_in}
 use Rattle.session.specs.Slips.{without, slips_by, can_call, slip_number, slip_numbers}
 use Rattle.session.specs.Blanks.{blank_call, blank_calls}

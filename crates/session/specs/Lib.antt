@@ -1,4 +1,3 @@
-pub mod Kinds
 pub mod Requests
 pub mod Slips
 pub mod Blanks

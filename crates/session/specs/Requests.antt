@@ -8,7 +8,7 @@ use Rattle.session.specs.declared.requests.Request.TheVariants.{Mount, Close, Co
 use Rattle.session.specs.declared.requests.Value.{Value}
 use Rattle.session.specs.declared.requests.Value.TheVariants as value
 use Rattle.session.specs.declared.requests.Reply.{Reply}
-use Rattle.session.specs.declared.made.Made.{Made}
+use Rattle.session.specs.declared.requests.Made.{Made}
 
 abbrev pub call_of : Request → Call
 call_of Mount = mount

@@ -14,7 +14,7 @@ use Rattle.refusals.specs.declared.types.Refusal.{Refusal}
 use Rattle.session.specs.declared.requests.Halt.{Halt}
 use Rattle.session.specs.declared.requests.Halt.TheVariants.{NoMemory, Refused}
 use Rattle.session.specs.declared.requests.Request.{Request}
-use Rattle.session.specs.declared.made.Made.{Made}
+use Rattle.session.specs.declared.requests.Made.{Made}
 use Rattle.session.specs.Requests.{calls_of, events_of}
 use Rattle.session.specs.Slips.{slips_after, can_call}
 

@@ -15,6 +15,7 @@ pub(crate) struct Blank<'a> {
     ghost numbers_are: { numbers.items ≡ numbers_of request },
 }
 
+// (Apart from `copy_numbers`: other requests bring these, and the element differs.)
 fn copy_bytes(heap: Global, request: Request) -> Result<Vec<u8>, AllocError>
     ensures { IfOk result (λ v. v.items ≡ bytes_of request.entry) }
 {

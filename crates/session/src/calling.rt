@@ -1,10 +1,9 @@
 // One request, made on the store.
-ghost use Rattle.std.specs.Prelude.{◌≡◌, ◌+◌, ◌<◌, ◌≤◌, true, [], ◌++◌, IfSome, vec_len, vec_capacity};
+ghost use Rattle.std.specs.Prelude.{◌≡◌, ◌+◌, ◌<◌, ◌≤◌, [], ◌++◌, vec_len, vec_capacity};
 ghost use Rattle.rules.specs.Calls.{open_slip};
 ghost use Rattle.rules.specs.Told.{told};
 ghost use Rattle.store.specs.Views.{seen};
 ghost use Rattle.session.specs.Requests.{call_of, bytes_of, numbers_of, opens_by, values_of};
-ghost use Rattle.session.specs.Kinds.{fits};
 ghost use Rattle.session.specs.Slips.{slip_numbers};
 ghost use Rattle.session.specs.Turns.{Called, Turn};
 
@@ -19,7 +18,6 @@ fn open_slip<C: Chip>(store: &mut Store<C>, slips: &mut Vec<Slip>) -> Result<Val
     requires { vec_len slips.old < vec_capacity slips.old }
     ensures kept { C.Chip.kept store.new.chip ≡ C.Chip.kept store.old.chip }
     ensures capacity { vec_capacity slips.new ≡ vec_capacity slips.old }
-    ensures kind { fits Request.Open result ≡ true }
     ensures called { Called open_slip (seen store.old) (slip_numbers slips.old.items) (told values_of [] result) (seen store.new) (slip_numbers slips.new.items) }
 {
     let slip = store.open()?;
@@ -41,7 +39,6 @@ pub(crate) fn perform<C: Chip>(
     requires numbers { numbers.old ≡ numbers_of request }
     ensures kept { C.Chip.kept store.new.chip ≡ C.Chip.kept store.old.chip }
     ensures capacity { vec_capacity slips.new ≡ vec_capacity slips.old }
-    ensures kind { IfSome result (λ outcome. fits request.entry outcome ≡ true) }
     ensures turn { Turn (call_of request.entry) (seen store.old) (slip_numbers slips.old.items) (bytes.new ++ numbers.new) result (seen store.new) (slip_numbers slips.new.items) }
 {
     match request {

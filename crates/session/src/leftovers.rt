@@ -6,9 +6,8 @@ ghost use Rattle.session.specs.Requests.{events_of};
 ghost use Rattle.session.specs.Stages.{Goes};
 ghost use Rattle.session.specs.Slips.{slip_numbers};
 
-use crate::made::Made;
 use crate::memory::Memory;
-use crate::requests::{Reply, Request, Value};
+use crate::requests::{Made, Reply, Request, Value};
 use chip::Chip;
 use std::alloc::Global;
 use store::Store;

@@ -6,13 +6,11 @@ mod blank;
 mod calling;
 mod hand;
 mod leftovers;
-mod made;
 mod making;
 mod memory;
 pub mod requests;
 mod reserving;
 mod running;
 
-pub use made::Made;
-pub use requests::{Halt, Reply, Request, Value};
+pub use requests::{Halt, Made, Reply, Request, Value};
 pub use running::run_session;

@@ -8,9 +8,8 @@ ghost use Rattle.session.specs.Slips.{slip_numbers};
 
 use crate::blank::Blank;
 use crate::calling::perform;
-use crate::made::Made;
 use crate::memory::Memory;
-use crate::requests::Reply;
+use crate::requests::{Made, Reply};
 use chip::Chip;
 use store::Store;
 

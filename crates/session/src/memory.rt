@@ -4,7 +4,7 @@ ghost use Rattle.session.specs.Requests.{opens_in};
 ghost use Rattle.session.specs.Blanks.{blank_calls};
 
 use crate::blank::Blank;
-use crate::made::Made;
+use crate::requests::Made;
 use store::Slip;
 
 pub(crate) struct Memory<'a> {

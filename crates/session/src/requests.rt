@@ -1,5 +1,4 @@
 // What is asked of a store, and what it answered.
-pub use crate::made::Made;
 use chip::SectorNumber;
 use refusals::Refusal;
 use rules::{Count, Holding, Tick};
@@ -77,6 +76,13 @@ pub struct Reply {
     pub outcome: Result<Value, Refusal>,
     pub bytes: Vec<u8>,
     pub numbers: Vec<u32>,
+}
+
+// A call that was made.
+#[derive(Drop)]
+pub struct Made<'a> {
+    pub request: Request<'a>,
+    pub reply: Reply,
 }
 
 // Why a session made no call.

@@ -3,10 +3,9 @@ ghost use Rattle.std.specs.Prelude.{◌≡◌};
 ghost use Rattle.session.specs.Sessions.{Ended};
 
 use crate::leftovers::keep_leftovers;
-use crate::made::Made;
 use crate::making::make_calls;
 use crate::memory::Memory;
-use crate::requests::{Halt, Request};
+use crate::requests::{Halt, Made, Request};
 use crate::reserving::reserve;
 use chip::Chip;
 use std::alloc::Global;
