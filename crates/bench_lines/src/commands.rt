@@ -23,6 +23,7 @@ pub enum Command {
 }
 
 impl Command {
+    // (No `Display`: a row has the letter and not the command's numbers.)
     pub(crate) fn letter(self) -> &'static str
         ensures { result.now ≡ letter_of self }
     {

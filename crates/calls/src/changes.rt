@@ -114,7 +114,7 @@ pub fn revert<C: Chip>(chip: &mut C, ix: &mut Index, state: Tick) -> Result<Tick
     ensures same { C.Chip.blocks chip.new ≡ C.Chip.blocks chip.old }
     ensures follows { Follows (revert state.0) (C.Chip.blocks chip.old) C.Chip.per (C.Chip.pages chip.old) ix.old (told tick_value [] result) (C.Chip.pages chip.new) ix.new }
 {
-    turn(chip, ix, state, state.0 as u64 + 1)
+    turn(chip, ix, state, u64::from(state.0) + 1)
 }
 
 // A revert after which the state's own number is held no more.
@@ -123,7 +123,7 @@ pub fn back<C: Chip>(chip: &mut C, ix: &mut Index, state: Tick) -> Result<Tick, 
     ensures same { C.Chip.blocks chip.new ≡ C.Chip.blocks chip.old }
     ensures follows { Follows (back_slip state.0) (C.Chip.blocks chip.old) C.Chip.per (C.Chip.pages chip.old) ix.old (told tick_value [] result) (C.Chip.pages chip.new) ix.new }
 {
-    turn(chip, ix, state, state.0 as u64)
+    turn(chip, ix, state, u64::from(state.0))
 }
 
 // Cleans one block, if a page is stale, and answers how many stale pages the chip lost.

@@ -16,6 +16,7 @@ fn erase_all<C: Chip>(chip: &mut C) -> Result<(), ChipFault>
     ensures erased { AllErased result (C.Chip.pages chip.new) }
 {
     let blocks = chip.size();
+    // Over numbers: the chip knows a block by nothing else.
     for b in 0..blocks {
         chip.erase(BlockNumber(b as u32))?;
     }

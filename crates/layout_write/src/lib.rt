@@ -89,7 +89,8 @@ fn pair(offset: usize, size: usize) -> [u8; PAIR_BYTES]
     [o0, o1, n0, n1]
 }
 
-// The pairs of the parts, from the first byte on.
+// The pairs of the parts, from the first byte on. (Three functions ask that all parts fit; a type that says so
+// would be made and taken apart in `put_register` alone.)
 fn put_pairs(out: &mut [u8], parts: &[&[u8]])
     requires { (length out.old ≡ 512) × (4 * length parts.now + length (whole (contents parts.now)) ≤ 512) }
     ensures { out.new ≡ paste out.old 0 (pairs_from (4 * length parts.now) (contents parts.now)) (4 * length parts.now) }

@@ -48,6 +48,8 @@ fn name_text(heap: Global, frozen: Option<Tick>) -> Result<String, AllocError>
     }
 }
 
+// That the state is held is a `requires` of each: a type for a held state of this store would be made for one
+// line and taken apart at once.
 impl<C: Chip> Mounted<'_, C> {
     // The birth of what a sector holds in a state.
     fn birth_in(&self, frozen: Option<Tick>, sector: u32) -> Option<Tick>

@@ -32,7 +32,8 @@ fn granted_line(
 }
 
 impl<C: Chip> Mounted<'_, C> {
-    // The held numbers, rising.
+    // The held numbers, rising. (One function for these and the label would take the call, the room and the
+    // element as parameters, and be longer than both.)
     fn held_numbers(&self) -> Result<Vec<u32>, AllocError>
         ensures { IfOk result (λ numbers. numbers.items ≡ reverse (reading_of (seen self.now.store.now)).held) }
     {

@@ -81,6 +81,7 @@ fn copy_staying<C: Chip>(
     ensures copied { Copies (C.Chip.blocks chip.old) C.Chip.per (C.Chip.pages chip.old) ix.old limit from to result (C.Chip.pages chip.new) ix.new }
 {
     let per = C::block_pages();
+    // Over places: a page keeps its place in the other block.
     for i in 0..per {
         if page_stays(ix, from + i, limit) {
             move_page(chip, ix, from + i, to + i)?;

@@ -91,6 +91,7 @@ pub fn make_room<C: Chip>(chip: &mut C, ix: &mut Index, limit: u32) -> Result<Pa
     ensures lasting { lasting ix.new ≡ lasting ix.old }
     ensures makes { MakesRoom (C.Chip.blocks chip.old) C.Chip.per (C.Chip.pages chip.old) ix.old limit result (C.Chip.pages chip.new) ix.new }
 {
+    // (`map_or_else` would have the same two arms, the second first.)
     match find_erased::<C>(ix) {
         Some(page) => Ok(page),
         None => clean_for_page(chip, ix, limit),
@@ -145,6 +146,7 @@ pub fn purge<C: Chip>(chip: &mut C, ix: &mut Index, limit: u32) -> Result<(), Ch
     ensures purged { Purges (C.Chip.blocks chip.old) C.Chip.per (C.Chip.pages chip.old) ix.old limit result (C.Chip.pages chip.new) ix.new }
 {
     let blocks = chip.size();
+    // Over numbers: the chip knows a block by nothing else.
     for b in 0..blocks {
         let block = BlockNumber(b as u32);
         if has_later::<C>(ix, block, limit) {

@@ -8,12 +8,13 @@ use limits::{Held, Label};
 // The most pages of a chip with a store.
 pub const MOST_PAGES: usize = 2048;
 
-// Stands in the map for a sector that has no version.
+// Stands in the map for a sector that has no version. (As an `Option` the map would take 4 KB more of the
+// device's memory, and an open store over 32 KB.)
 pub const NO_PAGE: u16 = 65535;
 
 #[derive(Drop)]
 pub struct Index {
-    // A record for each of the first `pages` pages.
+    // A record for each of the first `pages` pages: the device's memory is fixed.
     pub records: [Record; MOST_PAGES],
     pub pages: usize,
     // The page of the youngest version of each sector.
