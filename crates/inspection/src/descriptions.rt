@@ -82,6 +82,7 @@ pub fn label_text(heap: Global, label: &[u8]) -> Result<String, AllocError>
     QuotedLabel(label).to_string(heap)
 }
 
+// (The texts are Strings, so they take the heap: `describe` answers None for no line, and a Display can't.)
 fn version_text(heap: Global, kind: &str, version: Version) -> Result<String, AllocError>
     ensures { IfOk result (λ text. string_bytes text ≡ version_text kind.now version.sector.number version.birth.number) }
 {

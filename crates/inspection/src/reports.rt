@@ -13,6 +13,7 @@ use std::alloc::{AllocError, Global};
 use std::fmt::Write;
 
 // What a page is, or why it is bad.
+// (With `check_page` in the loop instead, its step is not proved: `meaning` opens there, and `kind_of` stays shut.)
 #[tactic(auto, unfolding(crate::specs::Reports::kind_of))]
 fn check(page: &[u8; PAGE_BYTES]) -> Result<Page, Cause>
     ensures { answer result ≡ kind_of page.now }

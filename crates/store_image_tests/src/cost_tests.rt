@@ -16,6 +16,14 @@ fn minus(counts: [u32; 3], before: [u32; 3]) -> [u32; 3] {
     array::from_fn(|i| counts[i].wrapping_sub(before[i]))
 }
 
+// The chip after the steps, made on a closed store over it.
+fn played_on<C: Chip + Drop>(chip: C, steps: &[Step<'_>]) -> Result<C, Fail> {
+    let mut store = Store::new(chip);
+    let end = play(&mut store, steps);
+    let chip = store.unmount();
+    end.map(|()| chip)
+}
+
 // What mount and then the steps cost.
 fn cost_of<C: Chip + Drop>(
     chip: Counting<C>,

@@ -1,4 +1,5 @@
 // Why mount refuses a chip.
+// (Each check says of one chip, by its pages, what mount answers; what they have alike is `verdict`.)
 use crate::verdicts::{Verdict, verdict};
 use chip::PAGE_BYTES;
 use std::test::Fail;

@@ -25,11 +25,7 @@ pub(crate) fn slip_around<
     T: Drop,
     F: FnOnce(&mut Store<C>) -> T,
     G: FnOnce(&mut Store<C>, Slip) -> Result<Tick, Refusal>,
->(
-    store: &mut Store<C>,
-    call: F,
-    spend: G,
-) -> Result<(u32, T, Result<u32, u8>), Fail>
+>(store: &mut Store<C>, call: F, spend: G) -> Result<(u32, T, Result<u32, u8>), Fail>
     requires call { F.IsAlwaysCallable call }
     requires spend { G.IsAlwaysCallable spend }
 {

@@ -1,4 +1,5 @@
 // Where the limits lie.
+// (Each test lends its chip the words: in one function for all, how many would be a computed const argument.)
 use chip::BlockNumber;
 use nor::{BLOCK_WORDS, Nor};
 use partition::Partition;

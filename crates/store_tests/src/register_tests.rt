@@ -2,6 +2,7 @@
 use chip::{Chip, PAGE_BYTES, PageNumber};
 use nor::{BLOCK_WORDS, Nor};
 use std::test::Fail;
+use store::Store;
 use test_hands::Step::*;
 use test_hands::*;
 
@@ -25,7 +26,10 @@ fn youngest_register<C: Chip>(chip: &C) -> Option<u32> {
 fn label_k7_and_held_3_have_these_bytes() -> Result<(), Fail> {
     let mut words = [0xFFFFu16; 4 * BLOCK_WORDS];
     let steps = [Format(b"K7", Ok(1)), Write(5, 65, Ok(2)), Freeze(Ok(3))];
-    let chip = played_on(Nor::new(&mut words), &steps)?;
+    let mut store = Store::new(Nor::new(&mut words));
+    let end = play(&mut store, &steps);
+    let chip = store.unmount();
+    end?;
     let mut wanted = [0; PAGE_BYTES];
     wanted[0..14].copy_from_slice(&[
         0x08, 0x00, 0x04, 0x00, 0x0C, 0x00, 0x02, 0x00, 0x03, 0x00, 0x00, 0x00, 0x4B, 0x37,

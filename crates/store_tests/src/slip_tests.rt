@@ -69,10 +69,7 @@ fn a_slip_of_an_ended_number_is_refused() -> Result<(), Fail> {
 
 fn spend_when_closed<C: Chip>(store: &mut Store<C>) -> Result<(), Fail> {
     state_three(store)?;
-    check_eq(
-        slip_around(store, close, Store::keep)?,
-        (5, Ok(()), Err(2)),
-    )?;
+    check_eq(slip_around(store, close, Store::keep)?, (5, Ok(()), Err(2)))?;
     play(store, &[Mount(Ok(5)), Held(&[3, 5])])
 }
 

@@ -2,6 +2,12 @@
 // its number, as docs/store.md has it, and pages for crafted chips.
 #![tactic(auto)]
 
+ghost use Rattle.std.specs.Prelude.{◌≡◌};
+ghost use Rattle.rules.specs.Calls as calls;
+ghost use Rattle.rules.specs.Told.{holding_value, size_value};
+ghost use Rattle.store.specs.Views.{seen};
+ghost use Rattle.test_hands.specs.Hands.{numbered, FilledBy};
+
 mod checks;
 mod pages;
 mod steps;
@@ -11,11 +17,13 @@ use chip::{Chip, SectorNumber};
 pub use pages::{changed, data_page, deletion_page, put, register_page};
 use refusals::Refusal;
 use rules::{Holding, Tick};
-pub use steps::{Step, play, play_on, played_on};
+pub use steps::{Step, play, play_on};
 use store::Store;
 
 // What is granted, or the number of the refusal.
-pub fn numbered<T>(answer: Result<T, Refusal>) -> Result<T, u8> {
+pub fn numbered<T>(answer: Result<T, Refusal>) -> Result<T, u8>
+    ensures { result ≡ numbered answer }
+{
     answer.map_err(Refusal::number)
 }
 
@@ -92,7 +100,9 @@ pub fn read<C: Chip>(
     store: &Store<C>,
     sector: u32,
     mut buffer: [u8; 512],
-) -> Filled<Holding, [u8; 512]> {
+) -> Filled<Holding, [u8; 512]>
+    ensures { FilledBy (calls.read sector buffer) (seen store.now) holding_value result }
+{
     let answer = store.read(SectorNumber(sector), &mut buffer);
     (numbered(answer), buffer)
 }
@@ -102,17 +112,23 @@ pub fn look<C: Chip>(
     state: u32,
     sector: u32,
     mut buffer: [u8; 512],
-) -> Filled<Holding, [u8; 512]> {
+) -> Filled<Holding, [u8; 512]>
+    ensures { FilledBy (calls.look state sector buffer) (seen store.now) holding_value result }
+{
     let answer = store.look(Tick(state), SectorNumber(sector), &mut buffer);
     (numbered(answer), buffer)
 }
 
-pub fn held<C: Chip>(store: &Store<C>, mut buffer: [u32; 8]) -> Filled<usize, [u32; 8]> {
+pub fn held<C: Chip>(store: &Store<C>, mut buffer: [u32; 8]) -> Filled<usize, [u32; 8]>
+    ensures { FilledBy (calls.ask_held buffer) (seen store.now) size_value result }
+{
     let answer = store.held(&mut buffer);
     (numbered(answer), buffer)
 }
 
-pub fn label<C: Chip>(store: &Store<C>, mut buffer: [u8; 32]) -> Filled<usize, [u8; 32]> {
+pub fn label<C: Chip>(store: &Store<C>, mut buffer: [u8; 32]) -> Filled<usize, [u8; 32]>
+    ensures { FilledBy (calls.ask_label buffer) (seen store.now) size_value result }
+{
     let answer = store.label(&mut buffer);
     (numbered(answer), buffer)
 }

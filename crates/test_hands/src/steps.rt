@@ -91,16 +91,10 @@ pub fn play<C: Chip>(store: &mut Store<C>, steps: &[Step<'_>]) -> Result<(), Fai
     Ok(())
 }
 
-// On a closed store over the chip, which is given back.
-pub fn played_on<C: Chip + Drop>(chip: C, steps: &[Step<'_>]) -> Result<C, Fail> {
+// On a closed store over the chip, which is let go afterwards.
+pub fn play_on<C: Chip + Drop>(chip: C, steps: &[Step<'_>]) -> Result<(), Fail> {
     let mut store = Store::new(chip);
     let end = play(&mut store, steps);
-    let chip = store.unmount();
-    end.map(|()| chip)
-}
-
-// The same, where nobody looks at the chip afterwards.
-pub fn play_on<C: Chip + Drop>(chip: C, steps: &[Step<'_>]) -> Result<(), Fail> {
-    let _ = played_on(chip, steps)?;
-    Ok(())
+    let _ = store.unmount();
+    end
 }
