@@ -35,6 +35,7 @@ pub enum ChipFault {
 }
 
 impl ChipFault {
+    // (By a match: with discriminants, an edit that gives one fault the number of another would not compile.)
     pub fn number(self) -> u8
         ensures { result ≡ fault_number self }
     {

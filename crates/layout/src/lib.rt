@@ -63,6 +63,7 @@ fn all_zero(bytes: &[u8]) -> bool
     bytes.iter().all(|byte| *byte == 0)
 }
 
+// (A match for each fact: a kind's unit and greatest number are asked apart.)
 impl PartKind {
     // Bytes of a unit.
     fn unit(self) -> usize
@@ -141,7 +142,7 @@ fn copy_held(bytes: &[u8]) -> Held
 }
 
 // Whether the held numbers rise strictly, from 1 to at most `birth`.
-fn do_rise(held: &[u8], birth: Birth) -> bool
+fn rises(held: &[u8], birth: Birth) -> bool
     requires { length held.now ≤ 32 }
     ensures { result ≡ rising 0 birth.number (words held.now) }
 {
@@ -156,12 +157,10 @@ pub fn read_register<'a>(
     ensures meaning { register_answer birth.number result ≡ register_meaning birth.number page.now }
     ensures parts { IfOk result (PartsOf birth.number page.now) }
 {
-    let Some(end) = parts_end(page, &REGISTER_KINDS) else {
-        return Err(RegisterFault::Pairs);
-    };
+    let end = parts_end(page, &REGISTER_KINDS).ok_or(RegisterFault::Pairs)?;
     let (held_offset, held) = part(page, 0);
     let (label_offset, label) = part(page, 1);
-    if !do_rise(held, birth) {
+    if !rises(held, birth) {
         return Err(RegisterFault::Held);
     }
     if !all_zero(&page[end..DATA_BYTES]) {
@@ -255,6 +254,7 @@ impl From<RegisterFault> for Cause {
 }
 
 impl Cause {
+    // (By a match: with discriminants, an edit that gives one cause the number of another would not compile.)
     pub fn number(self) -> u8
         ensures { result ≡ cause_number self }
     {
@@ -273,8 +273,7 @@ impl<'a> RegisterPart<'a> {
         ensures { result.now ≡ bytes_of self.entry }
     {
         match self {
-            RegisterPart::Held { offset: _, bytes } => bytes,
-            RegisterPart::Label { offset: _, bytes } => bytes,
+            RegisterPart::Held { bytes, .. } | RegisterPart::Label { bytes, .. } => bytes,
         }
     }
 }

@@ -7,7 +7,8 @@ pub enum PartKind {
     Label,
 }
 
-// A part of a register page: where it begins, and its bytes, which are the page's own.
+// A part of a register page: where it begins, and its bytes, which are the page's own. (As variants and not with
+// a field for the kind, so that who matches a part names what it is.)
 #[derive(Clone, Copy)]
 pub enum RegisterPart<'a> {
     Held { offset: usize, bytes: &'a [u8] },

@@ -66,6 +66,7 @@ impl<T: Copy + Default, const MOST: usize> Bounded<T, MOST> {
             return None;
         }
         let mut items = [T::default(); MOST];
+        // By index: a copy into a part of an array whose length is a parameter leaves no fact of it.
         for (i, item) in given.iter().enumerate() {
             items[i] = *item;
         }
@@ -93,6 +94,7 @@ impl<T: Copy + Default, const MOST: usize> Bounded<T, MOST> {
     pub fn as_slice(&self) -> &[T]
         ensures { result.now ≡ items_of self.now }
     {
+        // In two steps: such an array lends a part of itself by a slice of the whole alone.
         let all = &self.items[..];
         &all[..self.len]
     }
@@ -116,6 +118,7 @@ impl Register {
     pub fn new(birth: Birth, held: Held, label: Label) -> Option<Register>
         ensures { option_map register_values result ≡ register_from birth.number (held_of held) (label_of label) }
     {
+        // (No `then`: its closure would not know that the numbers rise.)
         if is_rising(held.as_slice(), birth.number) {
             Some(Register { birth, held, label })
         } else {

@@ -35,6 +35,7 @@ pub struct Bounded<T, const MOST: usize> {
     ghost few: { len ≤ MOST },
 }
 
+// (By hand: a `Clone` is not derived over a ghost field.)
 impl<T: Copy, const MOST: usize> Clone for Bounded<T, MOST> {
     ghost is_clone = { λ s r. r ≡ s };
 

@@ -21,7 +21,8 @@ pub struct Nand<'a> {
     image: &'a mut [u8],
 }
 
-// A lender common to the makes would spare none of these two calls: each make is a type of its own, for its impl of Chip.
+// A lender common to the makes would spare neither of these two functions: each make is a type of its own, for
+// its impl of Chip.
 impl<'a> Nand<'a> {
     pub fn new(image: &'a mut [u8]) -> Nand<'a>
         ensures image { result.image.now ≡ image.old }

@@ -25,7 +25,8 @@ pub struct Nor<'a> {
     image: &'a mut [u16],
 }
 
-// A lender common to the makes would spare none of these two calls: each make is a type of its own, for its impl of Chip.
+// A lender common to the makes would spare neither of these two functions: each make is a type of its own, for
+// its impl of Chip.
 impl<'a> Nor<'a> {
     pub fn new(image: &'a mut [u16]) -> Nor<'a>
         ensures image { result.image.now ≡ image.old }

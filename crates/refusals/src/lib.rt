@@ -20,7 +20,7 @@ impl Refusal {
             Refusal::StoreClosed => 2,
             Refusal::ChipSize => 3,
             Refusal::LabelLength => 4,
-            Refusal::BadPage { page: _, cause: _ } => 5,
+            Refusal::BadPage { .. } => 5,
             Refusal::NotAStore => 6,
             Refusal::NoSuchSector => 7,
             Refusal::BufferLength => 8,

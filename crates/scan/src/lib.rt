@@ -7,7 +7,7 @@ ghost use Rattle.limits.specs.Values.{register_values};
 ghost use Rattle.layout.specs.Page.{page_meaning, tag_of};
 ghost use Rattle.scan.specs.Scan.{younger, tags_read, scanned, answer, Checked};
 
-use chip::{Chip, PageNumber};
+use chip::{Chip, PAGE_BYTES, PageNumber};
 use layout::{Cause, Page, Tag, check_page};
 use limits::Register;
 
@@ -24,7 +24,7 @@ fn check_at<C: Chip>(chip: &C, number: u32) -> Result<Page, BadPage>
     ensures { Checked (slice_index_or (C.Chip.pages chip.now) number []) number result }
 {
     let page = PageNumber(number);
-    let mut buffer = [0; 528];
+    let mut buffer = [0; PAGE_BYTES];
     // The page is there, and the buffer as long as a page.
     let _ = chip.read(page, &mut buffer);
     check_page(&buffer).map_err(|cause| BadPage { page, cause })

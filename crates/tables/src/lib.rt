@@ -78,11 +78,7 @@ impl Index {
     pub fn at(&self, page: usize) -> Record
         ensures { result ≡ slice_index_or self.now.records page unused }
     {
-        if page < MOST_PAGES {
-            self.records[page]
-        } else {
-            unused_record()
-        }
+        self.records.get(page).copied().unwrap_or(unused_record())
     }
 
     // Makes the record of a page another.
@@ -90,6 +86,7 @@ impl Index {
         ensures records { self.new.records ≡ slice_set self.old.records at to }
         ensures rest { rest_of self.new ≡ rest_of self.old }
     {
+        // A write through `get_mut` leaves no fact of the records.
         if at < MOST_PAGES {
             self.records[at] = to;
         }

@@ -14,7 +14,8 @@ pub struct Tiny<'a> {
     rows: &'a mut [Row],
 }
 
-// A lender common to the makes would spare none of these two calls: each make is a type of its own, for its impl of Chip.
+// A lender common to the makes would spare neither of these two functions: each make is a type of its own, for
+// its impl of Chip.
 impl<'a> Tiny<'a> {
     pub fn new(rows: &'a mut [Row]) -> Tiny<'a>
         ensures rows { result.rows.now ≡ rows.old }
