@@ -14,20 +14,6 @@ mod tests {
     use std::test::Fail;
     use store::Store;
 
-    // Makes calls on a closed store over a NOR chip, which is let go afterwards. The one of store_tests
-    // is shared by no crate: it would be public, and public functions have no `requires` here.
-    fn on_store<F: FnOnce(&mut Store<Nor<'_>>) -> Result<(), Fail>>(
-        words: &mut [u16],
-        calls: F,
-    ) -> Result<(), Fail>
-        requires { F.IsAlwaysCallable calls }
-    {
-        let mut store = Store::new(Nor::new(words));
-        let outcome = calls(&mut store);
-        let _ = store.unmount();
-        outcome
-    }
-
     fn expect_lines(
         rt: &impl Abort,
         heap: Global,
@@ -63,7 +49,10 @@ mod tests {
     #[test]
     fn a_granted_mount_lists_each_state(rt: HostRuntime) -> Result<(), Fail> {
         let mut words = vec![in rt.alloc(); 0xFFFFu16; 3 * BLOCK_WORDS]?;
-        on_store(&mut words, |store| check_states(&rt, rt.alloc(), store))
+        let mut store = Store::new(Nor::new(&mut words));
+        let end = check_states(&rt, rt.alloc(), &mut store);
+        let _ = store.unmount();
+        end
     }
 
     fn check_empty(rt: &impl Abort, heap: Global, store: &mut Store<Nor<'_>>) -> Result<(), Fail> {
@@ -89,7 +78,10 @@ mod tests {
     #[test]
     fn an_empty_store_lists_none(rt: HostRuntime) -> Result<(), Fail> {
         let mut words = vec![in rt.alloc(); 0xFFFFu16; 2 * BLOCK_WORDS]?;
-        on_store(&mut words, |store| check_empty(&rt, rt.alloc(), store))
+        let mut store = Store::new(Nor::new(&mut words));
+        let end = check_empty(&rt, rt.alloc(), &mut store);
+        let _ = store.unmount();
+        end
     }
 
     #[test]

@@ -41,8 +41,8 @@ fn redirect(ix: &mut Index, sector: u16, from: usize, to: usize)
     ensures spare { ix.new.spare ≡ ix.old.spare }
     ensures lasting { lasting ix.new ≡ lasting ix.old }
 {
-    let sector = sector as usize;
-    if sector < ix.map.len() && ix.map[sector] as usize == from {
+    let sector = usize::from(sector);
+    if sector < ix.map.len() && usize::from(ix.map[sector]) == from {
         ix.map[sector] = to as u16;
     }
 }

@@ -43,7 +43,7 @@ fn morning<C: Chip>(store: &mut Store<C>, capacity: usize) -> Result<(), Fail> {
 // A slip of 8 is spent by back: the write after it is gone.
 fn noon<C: Chip>(store: &mut Store<C>) -> Result<(), Fail> {
     check_eq(
-        slip_around(store, |store| write(store, 3, 68), Store::back)?,
+        slip_around!(store, write(store, 3, 68), back),
         (8, Ok(9), Ok(10)),
     )?;
     play(store, &[Read(3, 65), Held(&[3])])
@@ -52,7 +52,7 @@ fn noon<C: Chip>(store: &mut Store<C>) -> Result<(), Fail> {
 // A slip of 11 is spent by keep: the write after it stays.
 fn evening<C: Chip>(store: &mut Store<C>) -> Result<(), Fail> {
     check_eq(
-        slip_around(store, |store| write(store, 5, 69), Store::keep)?,
+        slip_around!(store, write(store, 5, 69), keep),
         (11, Ok(12), Ok(13)),
     )?;
     play(store, &[Read(5, 69), Held(&[3])])
@@ -90,10 +90,14 @@ fn day<C: Chip>(store: &mut Store<C>, capacity: usize) -> Result<(), Fail> {
     night(store, capacity)
 }
 
+fn nand_day<C: Chip>(store: &mut Store<C>) -> Result<(), Fail> {
+    day(store, 62)
+}
+
 #[test]
 fn a_day_on_nand() -> Result<(), Fail> {
     let mut bytes = [0xFFu8; 3 * BLOCK_BYTES];
-    on_store(Nand::new(&mut bytes), |store| day(store, 62))
+    on_store!(Nand::new(&mut bytes), nand_day)
 }
 
 // The blocks beside the partition stay as they were.

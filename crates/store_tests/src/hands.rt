@@ -1,36 +1,26 @@
-// What the tests of this crate share. It is not in test_hands: public functions have no `requires`.
-use chip::Chip;
-use refusals::Refusal;
-use rules::Tick;
-use std::test::Fail;
-use store::{Slip, Store};
-use test_hands::tick;
+// What the tests of this crate share, as macros: a bound can't speak of a function over a `&mut Store<C>` yet,
+// since that type has a ghost field.
 
 // Makes calls on a closed store over the chip, which is let go afterwards.
-pub(crate) fn on_store<C: Chip + Drop, F: FnOnce(&mut Store<C>) -> Result<(), Fail>>(
-    chip: C,
-    calls: F,
-) -> Result<(), Fail>
-    requires { F.IsAlwaysCallable calls }
-{
-    let mut store = Store::new(chip);
-    let end = calls(&mut store);
-    let _ = store.unmount();
-    end
+macro_rules! on_store {
+    ($chip:expr, $calls:ident) => {{
+        let mut store = Store::new($chip);
+        let end = $calls(&mut store);
+        let _ = store.unmount();
+        end
+    }};
 }
 
+pub(crate) use on_store;
+
 // Takes a slip, makes a call and spends the slip: its number, and what the two answer.
-pub(crate) fn slip_around<
-    C: Chip,
-    T: Drop,
-    F: FnOnce(&mut Store<C>) -> T,
-    G: FnOnce(&mut Store<C>, Slip) -> Result<Tick, Refusal>,
->(store: &mut Store<C>, call: F, spend: G) -> Result<(u32, T, Result<u32, u8>), Fail>
-    requires call { F.IsAlwaysCallable call }
-    requires spend { G.IsAlwaysCallable spend }
-{
-    let slip = store.open()?;
-    let number = slip.number().0;
-    let called = call(store);
-    Ok((number, called, tick(spend(store, slip))))
+macro_rules! slip_around {
+    ($store:ident, $call:expr, $spend:ident) => {{
+        let slip = $store.open()?;
+        let number = slip.number().0;
+        let called = $call;
+        (number, called, tick($store.$spend(slip)))
+    }};
 }
+
+pub(crate) use slip_around;
