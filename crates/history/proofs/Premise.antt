@@ -1,5 +1,5 @@
 -- An open store that calls led to is sound; so a list of events whose calls need do what their contracts say only if memory tells what the pages say is a history.
-use Rattle.std.proofs.Common.{◌≡◌, List, [], ◌∷◌, Some, None, Option, ℕ, refl}
+use Rattle.std.proofs.Common.{◌≡◌, [], ◌∷◌, Some, None, Option, refl}
 use Rattle.std.proofs.Math.Logic.{∥∥₁_elim}
 use Rattle.std.proofs.Props.{props}
 use Rattle.tables.specs.declared.index.Index.{Index}
