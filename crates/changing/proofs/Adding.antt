@@ -1,5 +1,5 @@
 -- One more page of an open store.
-use Rattle.std.proofs.Common.{◌≡◌, ℕ, suc, ◌+◌, ◌<◌, ◌≤◌, min, true, List, [], length, get_or, set, Ok, Err, sym, refl, ap, ◌∙◌, subst, arith, length-set}
+use Rattle.std.proofs.Common.{◌≡◌, ℕ, suc, ◌+◌, ◌<◌, ◌≤◌, min, true, List, [], length, get_or, set, Ok, sym, refl, ap, ◌∙◌, subst, arith, length-set}
 use Rattle.chip.specs.Pages.{Page, is_erased, program_answer, pages_programmed}
 use Rattle.chip.proofs.Ways.{Answer, program_granted}
 use Rattle.readings.specs.Versions.{Content, bytes, deleted, Reading, add}

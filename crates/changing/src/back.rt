@@ -39,9 +39,8 @@ fn map_at(ix: &Index, number: u32) -> [u16; SECTORS]
     ensures entries { (s : ℕ) → s < 2048 → slice_index result s ≡ map_entry (page_in_state ix.now number s) }
 {
     let mut map = [NO_PAGE; SECTORS];
-    // Over numbers and not records: a page's number is what the map gets, and `enter` looks into two records.
-    for k in 0..ix.pages {
-        enter(ix, number, k, &mut map);
+    for (page, _) in ix.records[..ix.pages].iter().enumerate() {
+        enter(ix, number, page, &mut map);
     }
     map
 }

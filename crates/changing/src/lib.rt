@@ -22,7 +22,7 @@ use room::{clean_block, make_room};
 use tables::{Index, VersionKind};
 
 // Above every birth.
-const NO_LIMIT: u32 = 4294967295;
+const NO_LIMIT: u32 = u32::MAX;
 
 // Cleans the block with the most stale pages, and answers how many it had.
 pub fn clean<C: Chip>(chip: &mut C, ix: &mut Index) -> Result<usize, ChipFault>
@@ -70,11 +70,13 @@ fn add_version<C: Chip>(
 }
 
 // The image of a sector's next version, with these 512 bytes.
-fn data_image(ix: &Index, sector: Sector, given: &[u8; DATA_BYTES], image: &mut [u8; PAGE_BYTES])
-    ensures { NextVersion ix.now sector.number (bytes given.now) image.new }
+fn data_image(ix: &Index, sector: Sector, given: &[u8; DATA_BYTES]) -> [u8; PAGE_BYTES]
+    ensures { NextVersion ix.now sector.number (bytes given.now) result }
 {
     let birth = next_birth(ix);
-    write_data(Version { sector, birth }, given, image);
+    let mut image = [0u8; PAGE_BYTES];
+    write_data(Version { sector, birth }, given, &mut image);
+    image
 }
 
 // Writes 512 bytes as the youngest version of a sector.
@@ -88,17 +90,18 @@ pub fn add_data<C: Chip>(
     ensures same { C.Chip.blocks chip.new ≡ C.Chip.blocks chip.old }
     ensures adds { Adds (C.Chip.blocks chip.old) C.Chip.per (C.Chip.pages chip.old) ix.old sector.number (bytes given.now) result (C.Chip.pages chip.new) ix.new }
 {
-    let mut image = [0u8; PAGE_BYTES];
-    data_image(ix, sector, given, &mut image);
+    let image = data_image(ix, sector, given);
     add_version(chip, ix, sector, VersionKind::Data, &image)
 }
 
 // The image of a sector's next version, a deletion.
-fn deletion_image(ix: &Index, sector: Sector, image: &mut [u8; PAGE_BYTES])
-    ensures { NextVersion ix.now sector.number deleted image.new }
+fn deletion_image(ix: &Index, sector: Sector) -> [u8; PAGE_BYTES]
+    ensures { NextVersion ix.now sector.number deleted result }
 {
     let birth = next_birth(ix);
-    write_deletion(Version { sector, birth }, image);
+    let mut image = [0u8; PAGE_BYTES];
+    write_deletion(Version { sector, birth }, &mut image);
+    image
 }
 
 // Writes a deletion as the youngest version of a sector.
@@ -107,8 +110,7 @@ pub fn add_deletion<C: Chip>(chip: &mut C, ix: &mut Index, sector: Sector) -> Re
     ensures same { C.Chip.blocks chip.new ≡ C.Chip.blocks chip.old }
     ensures adds { Adds (C.Chip.blocks chip.old) C.Chip.per (C.Chip.pages chip.old) ix.old sector.number deleted result (C.Chip.pages chip.new) ix.new }
 {
-    let mut image = [0u8; PAGE_BYTES];
-    deletion_image(ix, sector, &mut image);
+    let image = deletion_image(ix, sector);
     add_version(chip, ix, sector, VersionKind::Deletion, &image)
 }
 

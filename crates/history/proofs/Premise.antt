@@ -1,24 +1,13 @@
--- The calls' contracts once had the premise that an open store is sound. On what calls lead to since a format it is met: a history under that premise is a history.
-use Rattle.std.proofs.Common.{◌≡◌, List, [], ◌∷◌, Some, None, Option, ℕ, refl}
+-- An open store that calls led to is sound; so a list of events whose calls need do what their contracts say only if memory tells what the pages say is a history.
+use Rattle.std.proofs.Common.{◌≡◌, [], ◌∷◌, Some, None, Option, refl}
 use Rattle.std.proofs.Math.Logic.{∥∥₁_elim}
 use Rattle.std.proofs.Props.{props}
 use Rattle.tables.specs.declared.index.Index.{Index}
-use Rattle.keeping.specs.Opened.{Opened}
 use Rattle.rules.specs.Calls.{Call, mount, close, count, clean, freeze, open_slip, write, delete, read, look, since, since_in, ask_held, ask_label, release, revert, keep_slip, back_slip, Answer}
-use Rattle.line.specs.Line.{Event}
 use Rattle.store.specs.Views.{View, Sound}
 use Rattle.store.specs.Deeds.{Does}
-use Rattle.history.specs.History.{History}
+use Rattle.history.specs.History.{EveryOpenStoreIsSound, Tells, PremiseIsMet}
 use Rattle.history.proofs.Lawful.{reached}
-
--- Memory tells what the pages say, where the store is open.
-abbrev pub Tells : View → Type 0
-Tells v = (ix : Index) → v.memory ≡ Some ix → Opened v.blocks v.per v.pages ix
-
--- Each call did what its contract says, if the store before it was sound.
-abbrev pub HistoryIfSound : List ℕ → List Event → View → Type 0
-HistoryIfSound label [] w = History label [] w
-HistoryIfSound label (e ∷ es) w = (v : View) × HistoryIfSound label es v × (Tells v → Does e.call v e.answer w)
 
 does_prop : (c : Call) (v : View) (a : Answer) (w : View) → IsProp (Does c v a w)
 does_prop mount v a w = Prim.hlevel props
@@ -48,11 +37,11 @@ met c v a w sound d = go v.memory refl
     go None is = d (λ ix e. absurd cc)
     go (Some x) is = ∥∥₁_elim (sound x is) (does_prop c v a w) (λ o. d (λ ix e. let k : x ≡ ix = cc in rw (← k) o))
 
-pub open_stores_are_sound : (label : List ℕ) (es : List Event) (w : View) → History label es w → Sound w
+pub open_stores_are_sound : EveryOpenStoreIsSound
 open_stores_are_sound label es w h = (reached label es w h).0.sound
 
-pub premise_is_met : (label : List ℕ) (es : List Event) (w : View) → HistoryIfSound label es w → History label es w
+pub premise_is_met : PremiseIsMet
 premise_is_met label [] w h = h
 premise_is_met label (e ∷ es) w (v, h, d) =
-    let i : History label es v = premise_is_met label es v h in
+    let i = premise_is_met label es v h in
     (v, i, met e.call v e.answer w (open_stores_are_sound label es v i) d)

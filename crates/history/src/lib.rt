@@ -2,7 +2,7 @@
 // calls themselves.
 #![tactic(auto)]
 
-ghost use Rattle.history.specs.History.{EveryHistoryIsLawful, EveryRevertIsTheEquation, EveryWorkedCaseHolds};
+ghost use Rattle.history.specs.History.{EveryHistoryIsLawful, EveryRevertIsTheEquation, EveryWorkedCaseHolds, EveryOpenStoreIsSound, PremiseIsMet};
 
 // Whatever calls are made on a store since a format, on any chip, in any order: their answers are
 // lawful.
@@ -20,4 +20,15 @@ pub fn every_revert_is_the_equation()
 // format.
 pub fn every_worked_case_holds()
     ensures { EveryWorkedCaseHolds }
+{}
+
+// On every store that calls can lead to, memory tells what the chip's pages say.
+pub fn every_open_store_is_sound()
+    ensures { EveryOpenStoreIsSound }
+{}
+
+// A list of events is a history where each call does what its contract says if memory told, before
+// it, what the pages say.
+pub fn premise_is_met()
+    ensures { PremiseIsMet }
 {}

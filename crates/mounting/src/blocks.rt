@@ -35,6 +35,5 @@ pub(crate) fn erased_block(tags: Tags, per: usize) -> Option<BlockNumber>
     requires { 0 < per }
     ensures { (blocks : ℕ) → length tags.entry.all.now ≡ blocks * per → MatchOption result (erased_block per blocks (tag_sayings tags.entry.all.now) ≡ false) (λ b. ErasedAt per blocks (tag_sayings tags.entry.all.now) b.0) }
 {
-    let block = first_erased(tags.all, per)?;
-    Some(BlockNumber(block as u32))
+    first_erased(tags.all, per).map(|block| BlockNumber(block as u32))
 }

@@ -15,7 +15,7 @@ pub(crate) fn sector_map(tags: Tags, records: &[Record; MOST_PAGES]) -> [u16; SE
 {
     let mut map = [NO_PAGE; SECTORS];
     for (i, tag) in tags.all.iter().enumerate() {
-        // In two tests: where one of both fails, a proof does not learn which.
+        // In two tests: where one of the two fails, a proof does not learn which.
         if let Some(version) = version_of(tag) {
             if records[i].link == 0 {
                 map[usize::from(version.sector.number)] = i as u16;

@@ -29,7 +29,7 @@ pub(crate) fn fill<F: Fn(&Tag) -> Option<u64>>(
     ensures few { result ≤ 2048 }
     ensures are { take result out.new ≡ filter_map gives tags.entry.all.now }
 {
-    // With its own count: what a loop writes through `iter_mut` is unknown to a proof afterwards.
+    // With its own count: what a loop writes through an adapter of `iter_mut` is unknown to a proof afterwards.
     let mut n = 0;
     for tag in tags.all {
         if let Some(it) = number(tag) {

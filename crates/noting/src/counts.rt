@@ -31,9 +31,5 @@ pub fn needed_after(ix: &Index, sector: Sector) -> usize
     };
     let replaced = ix.at(page.0 as usize);
     let next = u64::from(ix.clock) + 1;
-    if is_held_between(ix.held.as_slice(), replaced.birth, next) {
-        count + 1
-    } else {
-        count
-    }
+    count + usize::from(is_held_between(ix.held.as_slice(), replaced.birth, next))
 }

@@ -2,10 +2,12 @@
 // Chip and index are lent apart: a struct of both would be made anew at each call, and could not say what stays.
 #![tactic(auto)]
 
-ghost use Rattle.std.specs.Prelude.{◌≡◌, ◌*◌, Some, None};
+ghost use Rattle.std.specs.Prelude.{◌≡◌, ◌+◌, ◌*◌, Some, None};
 ghost use Rattle.std.specs.List.{list_any, range_with_len};
 ghost use Rattle.moving.specs.Sound.{lasting};
 ghost use Rattle.room.specs.Choose.{page_stale, stale_of, Chosen, is_open, first_free, page_later, MakesRoom, CleansBlock, Purges};
+
+use std::ops::Range;
 
 use chip::{BlockNumber, Chip, ChipFault, PageNumber};
 use moving::{page_stays, relocate};
@@ -26,13 +28,21 @@ fn is_open<C: Chip>(ix: &Index, page: PageNumber) -> bool
     block != ix.spare && ix.at(page.0 as usize).kind == Kind::Erased
 }
 
+// The numbers of a block's pages.
+fn pages_of<C: Chip>(block: BlockNumber) -> Range<usize>
+    ensures start { result.start ≡ block.0 * C.Chip.per }
+    ensures end { result.end ≡ block.0 * C.Chip.per + C.Chip.per }
+{
+    let per = C::block_pages();
+    let from = block.0 as usize * per;
+    from..from + per
+}
+
 // How many pages of a block are stale.
 fn count_stale<C: Chip>(ix: &Index, block: BlockNumber, limit: u32) -> usize
     ensures { result ≡ stale_of ix.now limit C.Chip.per block.0 }
 {
-    let per = C::block_pages();
-    let from = block.0 as usize * per;
-    (from..from + per)
+    pages_of::<C>(block)
         .filter(|page| is_stale(ix, *page, limit))
         .count()
 }
@@ -133,9 +143,7 @@ pub fn clean_block<C: Chip>(chip: &mut C, ix: &mut Index, limit: u32) -> Result<
 fn has_later<C: Chip>(ix: &Index, block: BlockNumber, limit: u32) -> bool
     ensures { result ≡ list_any (page_later ix.now limit) (range_with_len (block.0 * C.Chip.per) C.Chip.per) }
 {
-    let per = C::block_pages();
-    let from = block.0 as usize * per;
-    (from..from + per).any(|page| ix.at(page).is_born_within(limit, u32::MAX))
+    pages_of::<C>(block).any(|page| ix.at(page).is_born_within(limit, u32::MAX))
 }
 
 // Cleans each block that has a version born after the limit, so that none is left.

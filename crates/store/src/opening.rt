@@ -60,10 +60,7 @@ impl<C: Chip> Store<C> {
         ensures kept { C.Chip.kept self.new.chip ≡ C.Chip.kept self.old.chip }
         ensures does { Closes (seen self.old) (told no_value [] result) (seen self.new) }
     {
-        if self.index.is_none() {
-            return Err(Refusal::StoreClosed);
-        }
-        self.index = None;
+        self.index.take().ok_or(Refusal::StoreClosed)?;
         Ok(())
     }
 }

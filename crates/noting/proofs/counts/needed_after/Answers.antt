@@ -9,14 +9,8 @@ returns-in_default-clause-reads c =
     let e : c.needed_count-count.result + 1 ≡ needed_after c.args.ix.now c.args.sector.number = search rules in
     λ blocks per pages content con. e ∙ after_reads blocks per pages c.args.ix.now con c.args.sector.number (omega arith) content
 
-pub returns-then-is_held_between-clause-reads : goal.returns-then-is_held_between-clause-reads
-returns-then-is_held_between-clause-reads c =
+pub returns-clause-reads : goal.returns-clause-reads
+returns-clause-reads c =
     let last = c.args.sector.last in
-    let e : c.needed_count-count.result + 1 ≡ needed_after c.args.ix.now c.args.sector.number = search rules in
-    λ blocks per pages content con. e ∙ after_reads blocks per pages c.args.ix.now con c.args.sector.number (omega arith) content
-
-pub returns-else-is_held_between-clause-reads : goal.returns-else-is_held_between-clause-reads
-returns-else-is_held_between-clause-reads c =
-    let last = c.args.sector.last in
-    let e : c.needed_count-count.result ≡ needed_after c.args.ix.now c.args.sector.number = search rules in
+    let e : c.needed_count-count.result + c.from.result ≡ needed_after c.args.ix.now c.args.sector.number = search rules in
     λ blocks per pages content con. e ∙ after_reads blocks per pages c.args.ix.now con c.args.sector.number (omega arith) content
