@@ -70,7 +70,7 @@ pub fn requests_of<'a>(
     ensures { IfOk result (λ requests. map call_of requests.items ≡ calls_in fills.now lines.now) }
 {
     let mut requests = Vec::new(heap);
-    // No chain: a command can bring two calls, and each push can fail.
+    // Over `lines.iter().flatten()` the check asks for an invariant on that iterator; only this loop's was proved.
     for line in lines {
         if let Some(command) = line {
             push_calls(&mut requests, *command, fills)?;

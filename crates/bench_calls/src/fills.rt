@@ -12,7 +12,7 @@ pub fn all_fills(heap: Global) -> Result<Vec<[u8; SECTOR_BYTES]>, AllocError>
     ensures { IfOk result (λ fills. fills.items ≡ fills_to 256) }
 {
     let mut fills = Vec::with_capacity(heap, 256)?;
-    // The range is the data: each byte once.
+    // No chain: tried `(0..=u8::MAX).map(..).collect(heap)`; `search (rules, ranges)` proves its length alone.
     for byte in 0..256u16 {
         fills.push([byte as u8; SECTOR_BYTES])?;
     }

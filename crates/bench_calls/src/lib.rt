@@ -5,4 +5,4 @@
 pub mod asking;
 pub mod fills;
 pub mod runs;
-pub mod telling;
+mod telling;

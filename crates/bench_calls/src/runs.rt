@@ -74,6 +74,5 @@ pub fn run_input(heap: Global, input: &[u8]) -> Result<String, BenchFault>
     let requests = requests_of(heap, lines.as_slice(), fills.as_slice())?;
     let calls = run_requests(heap, requests.as_slice())?;
     let replies = replies_to(heap, calls.as_slice())?;
-    let text = rows(heap, lines.as_slice(), replies.as_slice())?;
-    Ok(text)
+    Ok(rows(heap, lines.as_slice(), replies.as_slice())?)
 }

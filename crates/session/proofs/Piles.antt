@@ -12,7 +12,6 @@ module _ (n : ℕ) where
   first ss = position_or_len (numbered n) ss
 
   first_there : (ss : List Slip) → first ss < length ss → (has n (slip_numbers ss) ≡ true) × (slip_numbers (remove ss (first ss)) ≡ without n (slip_numbers ss))
-  unfolding any
   first_there [] l = absurd (omega arith)
   first_there (s ∷ ss) l =
       elim (eqb n (slip_number s)) as (λ b. cond (not b) (1 + first ss) 0 < suc (length ss) → ((b || any (eqb n) (slip_numbers ss)) ≡ true) × (slip_numbers (remove (s ∷ ss) (cond (not b) (1 + first ss) 0)) ≡ cond b (slip_numbers ss) (slip_number s ∷ without n (slip_numbers ss)))) [
@@ -24,7 +23,6 @@ module _ (n : ℕ) where
       ] l
 
   not_there : (ss : List Slip) → length ss ≤ first ss → has n (slip_numbers ss) ≡ false
-  unfolding any
   not_there [] l = refl
   not_there (s ∷ ss) l =
       elim (eqb n (slip_number s)) as (λ b. suc (length ss) ≤ cond (not b) (1 + first ss) 0 → (b || any (eqb n) (slip_numbers ss)) ≡ false) [
@@ -50,7 +48,6 @@ module _ (n : ℕ) where
 
 -- The slip at the top of a pile.
 pub took_first : (s : Slip) (ss : List Slip) → Took (slip_number s) (s ∷ ss) s ss
-unfolding any
 took_first s ss =
     let n = slip_number s in
     let same = eq-eqb n n refl in

@@ -26,7 +26,7 @@ pub(crate) fn keep_leftovers<'a, C: Chip>(
         slips,
         mut done,
     } = memory;
-    // A `for` runs over values with `Drop` alone, which a slip has not.
+    // A `for` runs only over values that have `Drop`; a slip has none.
     let mut slips = slips.into_iter();
     while let Some(slip) = slips.next() {
         let state = slip.number();

@@ -71,6 +71,7 @@ pub enum Value {
 }
 
 // What was answered, and the buffer afterwards, which is one of bytes or, for held, one of numbers.
+// (Both stand beside one another: who reads a reply knows by the request which of the two is filled.)
 #[derive(Drop)]
 pub struct Reply {
     pub outcome: Result<Value, Refusal>,

@@ -8,7 +8,7 @@ use store::Store;
 use test_hands::Step::*;
 use test_hands::*;
 
-// Of buffers of the right lengths, with the number of the refusal.
+// A read or look that is refused with this number leaves a buffer of the right length as it was.
 fn read_is_refused<C: Chip>(store: &Store<C>, sector: u32, number: u8) -> Result<(), Fail> {
     check_eq(read(store, sector, [9; 512]), (Err(number), [9; 512]))
 }

@@ -58,7 +58,7 @@ fn padded<T: Copy + Default, const N: usize>(list: &[T]) -> Filled<usize, [T; N]
     (Ok(list.len()), items)
 }
 
-// Every buffer is filled before.
+// Takes a step, and compares what the store answers. Each buffer is full of sevens before its call.
 fn take<C: Chip>(store: &mut Store<C>, at: usize, step: Step<'_>) -> Result<(), Fail> {
     match step {
         Step::Format(label, answer) => agree(at, format(store, label), answer),
