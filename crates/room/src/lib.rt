@@ -7,10 +7,9 @@ ghost use Rattle.std.specs.List.{list_any, range_with_len};
 ghost use Rattle.moving.specs.Sound.{lasting};
 ghost use Rattle.room.specs.Choose.{page_stale, stale_of, Chosen, is_open, first_free, page_later, MakesRoom, CleansBlock, Purges};
 
-use std::ops::Range;
-
 use chip::{BlockNumber, Chip, ChipFault, PageNumber};
 use moving::{page_stays, relocate};
+use std::ops::Range;
 use tables::{Index, Kind};
 
 // Whether the page is programmed and not to stay.
