@@ -39,8 +39,8 @@ impl fmt::Display for BenchFault {
 impl From<AllocError> for BenchFault {
     ghost from_gives = { λ _ fault. fault ≡ NoMemory };
 
-    fn from(_fault: AllocError) -> BenchFault {
-        BenchFault::NoMemory
+    fn from(_: AllocError) -> BenchFault {
+        Self::NoMemory
     }
 }
 

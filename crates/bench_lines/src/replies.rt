@@ -49,7 +49,7 @@ pub fn rows(
 {
     let mut text = String::new(heap);
     let mut replies = replies.iter();
-    // No chain: each push can fail, and the rows can end early.
+    // No chain: it would have to end where the replies run out.
     for line in lines {
         match line {
             None => text.push_str("?\n")?,

@@ -67,7 +67,7 @@ impl fmt::Display for QuotedLabel<'_> {
     ghost output = { λ label. Some (quoted label.0.now) };
 
     fn fmt<W: fmt::Write>(&self, f: &mut fmt::Formatter<W>) -> fmt::Result {
-        f.write_str("\"")?;
+        f.write_char('"')?;
         for byte in self.0 {
             write!(f, "{}", LabelByte(*byte))?;
         }

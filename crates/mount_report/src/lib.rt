@@ -1,4 +1,4 @@
-// What mount makes of a chip, in lines, and all that the program `inspect` prints.
+// What mount makes of a chip, in lines, and a report that holds them. (No program prints them yet.)
 #![tactic(auto)]
 
 mod lists;

@@ -70,6 +70,7 @@ impl<C: Chip> Mounted<'_, C> {
         ensures { IfOk result (λ text. string_bytes text ≡ entries (reading_of (seen self.now.store.now)) frozen 2048) }
     {
         let mut text = String::new(self.heap);
+        // Over numbers: a store is asked for each sector by its number.
         for sector in 0..=LAST_SECTOR {
             let entry = entry_text(self.heap, sector, self.birth_in(frozen, sector))?;
             text.push_str(entry.as_str())?;
@@ -84,8 +85,7 @@ impl<C: Chip> Mounted<'_, C> {
     {
         let name = name_text(self.heap, frozen)?;
         let entries = or_none(self.heap, self.entries_text(frozen)?)?;
-        let text = format!(in self.heap; "{name}:{entries}\n")?;
-        Ok(text)
+        format!(in self.heap; "{name}:{entries}\n")
     }
 
     // Appends the lines of the states of held numbers.

@@ -25,10 +25,9 @@ fn granted_line(
     let held = held_text(heap, held)?;
     let label = label_text(heap, label)?;
     let Count { needed, capacity } = count;
-    let text = format!(in heap;
+    format!(in heap;
         "mount: 0, clock {clock}, held {held}, label {label}, needed {needed} of {capacity}\n"
-    )?;
-    Ok(text)
+    )
 }
 
 impl<C: Chip> Mounted<'_, C> {

@@ -1,4 +1,4 @@
-// What the program `inspect` prints, with what mount makes of the image.
+// The report of the program `inspect`, and after it what mount makes of the image. (No program prints it yet.)
 ghost use Rattle.std.specs.Prelude.{◌≡◌, IfOk, string_bytes};
 ghost use Rattle.inspection.specs.Arguments.{name_of};
 ghost use Rattle.inspection.specs.Images.{left_over};
@@ -26,6 +26,5 @@ pub fn image_report<C: Chip + Drop>(
     let lines = mount_lines(heap, &mut store);
     let chip = store.unmount();
     let left = left_over(file_bytes, &chip);
-    let text = report_with(heap, make, left, &chip, lines?.as_str())?;
-    Ok(text)
+    report_with(heap, make, left, &chip, lines?.as_str())
 }
