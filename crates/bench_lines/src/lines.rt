@@ -10,6 +10,7 @@ pub fn parse_lines(heap: Global, input: &[u8]) -> Result<Vec<Option<Command>>, A
     ensures { IfOk result (λ commands. commands.items ≡ commands_in input.now) }
 {
     let mut commands = Vec::new(heap);
+    // No chain: tried `.map(..).collect(heap)`, and `search` did not prove that it gives each line's command.
     for line in input.split_inclusive(|byte| *byte == b'\n') {
         let line = line.strip_suffix(b"\n").unwrap_or(line);
         commands.push(parse_command(line))?;

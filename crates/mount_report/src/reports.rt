@@ -1,4 +1,4 @@
-// The report of the program `inspect`, and after it what mount makes of the image. (No program prints it yet.)
+// The lines of the program `inspect`, with what mount makes of the image among them. (No program prints it yet.)
 ghost use Rattle.std.specs.Prelude.{◌≡◌, IfOk, string_bytes};
 ghost use Rattle.inspection.specs.Arguments.{name_of};
 ghost use Rattle.inspection.specs.Images.{left_over};

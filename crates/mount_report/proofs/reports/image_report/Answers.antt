@@ -25,9 +25,9 @@ returns g c =
     let mounted = c.mount_lines-lines.ensures in
     let told = c.as_str.ensures.value ∙ c.in_ok-lines.ensures.text (ap is_some made.closed) ∙ ap (λ z. mount_text (m.blocks z) m.per (m.pages z)) made.chip in
     let same =
-      same_report (name_of c.args.make) m.per c.args.file_bytes c.left_over-left.result (m.blocks c.unmount-chip.result) (m.blocks chip) (m.pages c.unmount-chip.result) (m.pages chip) c.as_str.result.now (mount_text (m.blocks chip) m.per (m.pages chip))
-      c.left_over-left.ensures
-      (ap m.blocks c.unmount-chip.ensures ∙ mounted.blocks ∙ ap m.blocks made.chip)
-      (ap m.pages c.unmount-chip.ensures ∙ mounted.pages ∙ ap m.pages made.chip)
-      told in
+    same_report (name_of c.args.make) m.per c.args.file_bytes c.left_over-left.result (m.blocks c.unmount-chip.result) (m.blocks chip) (m.pages c.unmount-chip.result) (m.pages chip) c.as_str.result.now (mount_text (m.blocks chip) m.per (m.pages chip))
+    c.left_over-left.ensures
+    (ap m.blocks c.unmount-chip.ensures ∙ mounted.blocks ∙ ap m.blocks made.chip)
+    (ap m.pages c.unmount-chip.ensures ∙ mounted.pages ∙ ap m.pages made.chip)
+    told in
     IfOk-weaker c.report_with.result _ _ (λ text h. h ∙ same) c.report_with.ensures
