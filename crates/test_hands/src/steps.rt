@@ -91,7 +91,7 @@ pub fn play<C: Chip>(store: &mut Store<C>, steps: &[Step<'_>]) -> Result<(), Fai
     Ok(())
 }
 
-// On a closed store over the chip, which is let go afterwards.
+// Plays the steps on a closed store over the chip, which is let go afterwards.
 pub fn play_on<C: Chip + Drop>(chip: C, steps: &[Step<'_>]) -> Result<(), Fail> {
     let mut store = Store::new(chip);
     let end = play(&mut store, steps);
