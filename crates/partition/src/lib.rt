@@ -8,6 +8,9 @@ ghost use Rattle.partition.specs.Shaped.{part_shape};
 
 use chip::{BlockNumber, Chip, ChipFault, PageNumber};
 
+// No chip has more blocks: one past it is lacking, and page numbers below it fit.
+const MOST_BLOCKS: usize = 4096;
+
 // `count` blocks of the chip below, from its block `first` on.
 #[derive(Drop)]
 pub struct Partition<C> {
@@ -56,10 +59,14 @@ impl<C: Chip> Partition<C> {
     }
 
     // Which block of the chip below a block of the partition is.
+    // (Not by `block_index`: that asks the chip below for its size, at each call and at each partition below.)
     fn block_below(&self, block: BlockNumber) -> Result<BlockNumber, ChipFault>
         ensures { MatchResult result (λ b. BlockBelow C.Chip.per self.now.first self.now.count (C.Chip.blocks self.now.below) (C.Chip.pages self.now.below) block.0 b.0) (Lacking (part_blocks C.Chip.blocks self.now) block.0) }
     {
-        let block = self.block_index(block)?;
+        let block = block.0 as usize;
+        if block >= self.count.min(MOST_BLOCKS.saturating_sub(self.first)) {
+            return Err(ChipFault::OutOfRange);
+        }
         Ok(BlockNumber((self.first + block) as u32))
     }
 
