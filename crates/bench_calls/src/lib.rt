@@ -5,4 +5,4 @@
 pub mod asking;
 pub mod fills;
 pub mod runs;
-mod telling;
+pub mod telling;

@@ -52,7 +52,7 @@ fn reply_to(made: &Made) -> Shown
 }
 
 // What the calls show, in their order; the close before a mount shows nothing.
-pub(crate) fn replies_to(heap: Global, calls: &[Made]) -> Result<Vec<Shown>, AllocError>
+pub fn replies_to(heap: Global, calls: &[Made]) -> Result<Vec<Shown>, AllocError>
     ensures { IfOk result (λ replies. replies.items ≡ replies_to calls.now) }
 {
     calls
