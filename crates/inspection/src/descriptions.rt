@@ -1,5 +1,5 @@
 // What the line of a page says of it.
-ghost use Rattle.std.specs.Prelude.{◌≡◌, Some, IfOk, string_bytes};
+ghost use Rattle.std.specs.Prelude.{◌≡◌, ◌++◌, Some, IfOk, OnOk, string_bytes};
 ghost use Rattle.std.specs.Option.{option_map};
 ghost use Rattle.layout.specs.Page.{answer, cause_number};
 ghost use Rattle.limits.specs.Values.{held_of, label_of};
@@ -9,6 +9,7 @@ use layout::{Cause, Page};
 use limits::{Register, Version};
 use std::alloc::{AllocError, Global};
 use std::fmt;
+use std::fmt::Write;
 
 // Held numbers with one space between, or `none`.
 #[derive(Drop)]
@@ -42,44 +43,26 @@ fn is_plain(byte: u8) -> bool
     matches!(byte, 0x20..=0x7E) && byte != b'"' && byte != b'\\'
 }
 
-// A byte of a label: as itself where it is plain, otherwise as `\xNN`.
-#[derive(Drop)]
-struct LabelByte(u8);
-
-impl fmt::Display for LabelByte {
-    ghost output = { λ byte. Some (escaped byte.0) };
-
-    fn fmt<W: fmt::Write>(&self, f: &mut fmt::Formatter<W>) -> fmt::Result {
-        let byte = self.0;
-        if is_plain(byte) {
-            f.write_char(char::from(byte))
-        } else {
-            write!(f, "\\x{byte:02X}")
-        }
+// Appends a byte of a label: as itself where it is plain, otherwise as `\xNN`.
+fn push_escaped(text: &mut String, byte: u8) -> Result<(), AllocError>
+    ensures { OnOk result (string_bytes text.new ≡ string_bytes text.old ++ escaped byte) }
+{
+    if is_plain(byte) {
+        return text.push(char::from(byte));
     }
+    write!(text, "\\x{byte:02X}")
 }
 
-// A label in double quotes.
-#[derive(Drop)]
-struct QuotedLabel<'a>(&'a [u8]);
-
-impl fmt::Display for QuotedLabel<'_> {
-    ghost output = { λ label. Some (quoted label.0.now) };
-
-    fn fmt<W: fmt::Write>(&self, f: &mut fmt::Formatter<W>) -> fmt::Result {
-        f.write_char('"')?;
-        for byte in self.0 {
-            write!(f, "{}", LabelByte(*byte))?;
-        }
-        f.write_str("\"")
-    }
-}
-
-// The label in double quotes.
+// The label in double quotes. (A `Display` that writes each byte takes four times as long on a long label.)
 pub fn label_text(heap: Global, label: &[u8]) -> Result<String, AllocError>
     ensures { IfOk result (λ text. string_bytes text ≡ quoted label.now) }
 {
-    QuotedLabel(label).to_string(heap)
+    let mut text = String::from_str(heap, "\"")?;
+    for byte in label {
+        push_escaped(&mut text, *byte)?;
+    }
+    text.push_str("\"")?;
+    Ok(text)
 }
 
 // (The texts are Strings, so they take the heap: `describe` answers None for no line, and a Display can't.)
@@ -96,7 +79,7 @@ fn register_text(heap: Global, register: Register) -> Result<String, AllocError>
 {
     let birth = register.birth.number;
     let held = HeldNumbers(register.held.as_slice());
-    let label = QuotedLabel(register.label.as_slice());
+    let label = label_text(heap, register.label.as_slice())?;
     format!(in heap; "register, birth {birth}, held {held}, label {label}")
 }
 
