@@ -175,11 +175,6 @@ module _ (blocks per : ℕ) (pages : List Page) (ix : Index) (con : Consistent b
       let f = found_below ix.records n s ix.pages in
       shows_found f.page f.birth (best ix.records n s ix.pages)
 
--- What the search has so far.
-abbrev pub found_of : Option (PageNumber × ℕ) → Found
-found_of None = record { page = None; birth = 0 }
-found_of (Some (page, birth)) = record { page = Some page; birth = birth }
-
 -- One turn of the search.
 module _ (records : List Record) (n s i : ℕ) (r : Record) (is : r ≡ get_or records i unused) (f : Found) (so_far : f ≡ found_below records n s i) where
   found_step : found_below records n s (i + 1) ≡ cond (is_of n s r && ltb f.birth r.birth) (record { page = Some (page_number i); birth = r.birth }) f
