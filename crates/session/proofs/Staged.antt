@@ -1,8 +1,9 @@
 -- A session under way, one call on.
-use Rattle.std.proofs.Common.{◌≡◌, ℕ, suc, ◌+◌, ◌≤◌, Bool, true, false, cond, eqb, List, [], ◌∷◌, ◌++◌, map, reverse, length, Some, None, Option, Result, sym, refl, ap, ◌∙◌, subst, inl, inr, arith, length-append}
+use Rattle.std.proofs.Common.{◌≡◌, ℕ, suc, ◌+◌, ◌≤◌, Bool, true, false, cond, eqb, List, [], ◌∷◌, ◌++◌, All, map, reverse, length, Some, None, Option, Result, sym, refl, ap, ◌∙◌, subst, inl, inr, arith, length-append}
 use mathlib.Core.List.{reverse-append}
 use Rattle.std.proofs.lemmas.List.{map_push, length-map, append_assoc, nil_from_length}
 use Rattle.std.proofs.lemmas.List.Sums.{sum_by-append}
+use Rattle.std.proofs.lemmas.List.Elements.{All-same, All-push}
 use Rattle.std.proofs.lemmas.Bool.{cases_eq, true≢false}
 use Rattle.refusals.specs.declared.types.Refusal.{Refusal}
 use Rattle.rules.specs.Calls.{Call, mount, close, count, clean, freeze, open_slip, write, delete, read, look, since, since_in, ask_held, ask_label, release, revert, keep_slip, back_slip, Answer}
@@ -19,6 +20,7 @@ use Rattle.session.specs.Requests.{call_of, calls_of, values_of, answer_of, even
 use Rattle.session.specs.Slips.{without, slips_by, can_call, slip_number, slip_numbers}
 use Rattle.session.specs.Blanks.{blank_call, blank_calls}
 use Rattle.session.specs.Turns.{Called, LeftOut, Turn}
+use Rattle.session.specs.Kinds.{OfItsKind}
 use Rattle.session.specs.Sessions.{called, left_out}
 use Rattle.session.specs.Stages.{Stage, Goes}
 use Rattle.session.proofs.Piles.{took_first}
@@ -172,6 +174,10 @@ on_made v w ns ms before after m a pushed is t label blocks cs st =
 
 pub both : {ks bs cs ds : List ℕ} → ks ≡ bs → cs ≡ ds → ks ++ cs ≡ bs ++ ds
 both {bs = bs} {cs = cs} e f = ap (λ z. z ++ cs) e ∙ ap (λ z. bs ++ z) f
+
+-- one more call of its kind
+pub one_more : (before after : List Made) (m : Made) → after ≡ before ++ m ∷ [] → All OfItsKind before → OfItsKind m → All OfItsKind after
+one_more before after m pushed all one = All-same OfItsKind after _ pushed (All-push OfItsKind before m all one)
 
 -- one call after others
 pub goes_on : (c : Call) (more : List Call) (es fs hs : List Event) (u v w : View) (ls ns ms : List ℕ) → Goes more es u ls fs v ns → Goes (c ∷ []) fs v ns hs w ms → Goes (c ∷ more) es u ls hs w ms

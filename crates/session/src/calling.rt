@@ -1,9 +1,11 @@
 // One request, made on the store.
-ghost use Rattle.std.specs.Prelude.{◌≡◌, ◌+◌, ◌<◌, ◌≤◌, [], ◌++◌, vec_len, vec_capacity};
+ghost use Rattle.std.specs.Prelude.{◌≡◌, ◌+◌, ◌<◌, ◌≤◌, true, [], ◌++◌, IfSome, vec_len, vec_capacity};
 ghost use Rattle.rules.specs.Calls.{open_slip};
 ghost use Rattle.rules.specs.Told.{told};
 ghost use Rattle.store.specs.Views.{seen};
 ghost use Rattle.session.specs.Requests.{call_of, bytes_of, numbers_of, opens_by, values_of};
+ghost use Rattle.session.specs.Kinds.{can_answer};
+ghost use Rattle.session.specs.declared.requests.Request.TheVariants.{Open};
 ghost use Rattle.session.specs.Slips.{slip_numbers};
 ghost use Rattle.session.specs.Turns.{Called, Turn};
 
@@ -19,6 +21,7 @@ fn open_slip<C: Chip>(store: &mut Store<C>, slips: &mut Vec<Slip>) -> Result<Val
     ensures kept { C.Chip.kept store.new.chip ≡ C.Chip.kept store.old.chip }
     ensures capacity { vec_capacity slips.new ≡ vec_capacity slips.old }
     ensures called { Called open_slip (seen store.old) (slip_numbers slips.old.items) (told values_of [] result) (seen store.new) (slip_numbers slips.new.items) }
+    ensures kind { can_answer Open result ≡ true }
 {
     let slip = store.open()?;
     let number = slip.number();
@@ -40,6 +43,7 @@ pub(crate) fn perform<C: Chip>(
     ensures kept { C.Chip.kept store.new.chip ≡ C.Chip.kept store.old.chip }
     ensures capacity { vec_capacity slips.new ≡ vec_capacity slips.old }
     ensures turn { Turn (call_of request.entry) (seen store.old) (slip_numbers slips.old.items) (bytes.new ++ numbers.new) result (seen store.new) (slip_numbers slips.new.items) }
+    ensures kind { IfSome result (λ outcome. can_answer request.entry outcome ≡ true) }
 {
     match request {
         Request::Mount => Some(store.mount().map(Value::Tick)),

@@ -1,8 +1,9 @@
 // The slips that are left over when all requests were made.
-ghost use Rattle.std.specs.Prelude.{◌≡◌, ℕ, List, [], map};
+ghost use Rattle.std.specs.Prelude.{◌≡◌, ℕ, List, [], All, map};
 ghost use Rattle.rules.specs.Calls.{keep_slip};
 ghost use Rattle.store.specs.Views.{seen};
 ghost use Rattle.session.specs.Requests.{events_of};
+ghost use Rattle.session.specs.Kinds.{OfItsKind};
 ghost use Rattle.session.specs.Stages.{Goes};
 ghost use Rattle.session.specs.Slips.{slip_numbers};
 
@@ -20,6 +21,7 @@ pub(crate) fn keep_leftovers<'a, C: Chip>(
 ) -> Vec<Made<'a>>
     ensures kept { C.Chip.kept store.new.chip ≡ C.Chip.kept store.old.chip }
     ensures goes { (late : List ℕ) × Goes (map keep_slip late) (events_of memory.entry.done.items) (seen store.old) (slip_numbers memory.entry.slips.items) (events_of result.items) (seen store.new) [] }
+    ensures kinds { All OfItsKind result.items }
 {
     let Memory {
         blanks: _,

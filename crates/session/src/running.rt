@@ -1,6 +1,7 @@
 // A whole session.
-ghost use Rattle.std.specs.Prelude.{◌≡◌};
+ghost use Rattle.std.specs.Prelude.{◌≡◌, All, IfOk};
 ghost use Rattle.session.specs.Sessions.{Ended};
+ghost use Rattle.session.specs.Kinds.{OfItsKind};
 
 use crate::leftovers::keep_leftovers;
 use crate::making::make_calls;
@@ -23,6 +24,7 @@ pub fn run_session<'a, C: Chip>(
     ensures kept { C.Chip.kept result.0 ≡ C.Chip.kept chip }
     ensures blocks { C.Chip.blocks result.0 ≡ C.Chip.blocks chip }
     ensures ended { Ended label.now requests.now (C.Chip.blocks chip) C.Chip.per (C.Chip.pages chip) (C.Chip.pages result.0) result.1 }
+    ensures kinds { IfOk result.1 (λ made. All OfItsKind made.items) }
 {
     let Ok(mut memory) = reserve(heap, requests) else {
         return (chip, Err(Halt::NoMemory));

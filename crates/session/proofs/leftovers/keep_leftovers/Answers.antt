@@ -2,7 +2,7 @@ use Rattle.std.proofs.Common.{◌≡◌, List, ℕ, [], ◌∷◌, rules, ap, �
 use Rattle.rules.specs.declared.types.Tick.{Tick}
 use Rattle.rules.specs.Told.{told, tick_value}
 use Rattle.session.specs.Requests.{values_of}
-use Rattle.session.proofs.Staged.{both, first_kept, on_made, goes_on, goes_to_none}
+use Rattle.session.proofs.Staged.{both, first_kept, on_made, goes_on, goes_to_none, one_more}
 use Rattle.session.proofs.leftovers.keep_leftovers.Goals as goal
 
 pub loop-slip-preserved : goal.loop-slip-preserved
@@ -18,6 +18,7 @@ loop-slip-preserved g c =
       kept = c.keep.ensures.kept ∙ inv.kept;
       late = c.number-state.result.0 ∷ inv.late;
       goes = goes_on _ _ _ _ _ _ _ _ _ _ _ inv.goes (on_made _ _ _ _ _ _ _ _ c.push_reserved.ensures.items empty call);
+      kinds = one_more _ _ _ c.push_reserved.ensures.items inv.kinds (search rules);
     }
 
 pub returns-clause-goes : goal.returns-clause-goes

@@ -3,7 +3,7 @@ use Rattle.std.proofs.lemmas.List.{with_items_is}
 use Rattle.rules.specs.Told.{told}
 use Rattle.session.specs.Requests.{values_of}
 use Rattle.session.specs.Blanks.{blank_call}
-use Rattle.session.proofs.Staged.{opens_popped, split_popped, pile_bound, on_made, on_left_out, both, goes_on, goes_as, none_left}
+use Rattle.session.proofs.Staged.{opens_popped, split_popped, pile_bound, on_made, on_left_out, both, goes_on, goes_as, none_left, one_more}
 use Rattle.session.proofs.making.make_calls.Goals as goal
 
 pub invariant_of-memory : goal.invariant_of-memory
@@ -13,7 +13,7 @@ invariant_of-memory g c =
     let same = c.perform-outcome.ensures.capacity in
     let fewer = c.in-Some.ensures.cases in
     let long = c.perform-outcome.new.slips.ok.0 in
-    record { slip_room = omega (arith, opens, bound, same, long); room = omega (arith, opens, bound, fewer, long, c.push_reserved.ensures.len, c.push_reserved.ensures.capacity) }
+    record { slip_room = omega (arith, opens, bound, same, long); room = omega (arith, opens, bound, fewer, long, c.push_reserved.ensures.len, c.push_reserved.ensures.capacity); kinds = one_more _ _ _ c.push_reserved.ensures.items c.loop-blank.memory.kinds c.in-Some-outcome.ensures.kind }
 
 pub invariant_of-memory-in-None-1 : goal.invariant_of-memory-in-None-1
 invariant_of-memory-in-None-1 g c =
@@ -22,7 +22,7 @@ invariant_of-memory-in-None-1 g c =
     let same = c.perform-outcome.ensures.capacity in
     let fewer = c.in-Some.ensures.cases in
     let long = c.perform-outcome.new.slips.ok.0 in
-    record { slip_room = omega (arith, opens, bound, same, long); room = omega (arith, opens, bound, fewer, long) }
+    record { slip_room = omega (arith, opens, bound, same, long); room = omega (arith, opens, bound, fewer, long); kinds = c.loop-blank.memory.kinds }
 
 pub loop-blank-preserved-in-Some-outcome : goal.loop-blank-preserved-in-Some-outcome
 loop-blank-preserved-in-Some-outcome g c =

@@ -16,4 +16,5 @@ returns g c =
       kept = ap chip.kept back ∙ c.keep_leftovers-made.ensures.kept ∙ c.make_calls.ensures.kept ∙ c.format.ensures.kept ∙ ap chip.kept made;
       blocks = ap chip.blocks back ∙ last.blocks_are ∙ ap chip.blocks made;
       ended = ran _ c.args.requests.now _ keeps.0 _ _ _ _ _ (ap chip.blocks made) refl (sym (ap chip.pages back)) last;
+      kinds = c.keep_leftovers-made.ensures.kinds;
     }
