@@ -1,15 +1,12 @@
 -- Every history of a store is a run by the rules of the calls.
 use Rattle.std.proofs.Common.{◌≡◌, ℕ, Bool, true, false, cond, eqb, List, [], ◌∷◌, MatchBool, Some, None, Option, sym, refl, ap, ◌∙◌, subst}
 use Rattle.std.proofs.lemmas.Bool.{both_ways}
-use Rattle.std.proofs.Math.Logic.{∥∥₁_elim}
-use Rattle.std.proofs.Props.{props}
 use Rattle.std.specs.Option.{is_some}
 use Rattle.readings.specs.Sayings.{sayings}
 use Rattle.readings.specs.Reading.{reading}
 use Rattle.readings.specs.Mount.{Verdict, mount_verdict, capacity}
 use Rattle.tables.specs.Tells.{Accepted}
 use Rattle.tables.specs.declared.index.Index.{Index}
-use Rattle.keeping.specs.Opened.{Opened}
 use Rattle.rules.specs.Calls.{Call, mount, close, count, clean, freeze, open_slip, write, delete, read, look, since, since_in, ask_held, ask_label, release, revert, keep_slip, back_slip, Answer, refused, granted, rule}
 use Rattle.line.specs.Line.{Event, is_granted, effect_of, opens}
 use Rattle.line.specs.Runs.{State, cleans, Step, StepOpen, StepClosed, Run}
@@ -37,7 +34,7 @@ good_open v o sound = record { accepted = go v.memory refl o; sound = sound }
   where
     go : (m : Option Index) → v.memory ≡ m → is_some m ≡ true → Accepted v.blocks v.per v.pages
     go None is e = absurd (both_ways false refl e)
-    go (Some ix) is e = ∥∥₁_elim (sound ix is) (Prim.hlevel props) (λ (o : Opened v.blocks v.per v.pages ix). o.accepted)
+    go (Some ix) is e = (sound ix is).accepted
 
 closed_sound : (v : View) → is_open v ≡ false → Sound v
 closed_sound v c ix is = absurd (both_ways (is_open v) c (ap is_some is))
@@ -94,7 +91,7 @@ module _ (c : Call) (a : Answer) (v w : View) where
   changes_stepped g k l n d = go (is_open v) refl
     where
       go : (b : Bool) → is_open v ≡ b → Stepped c a v w
-      go true o = follows_stepped g o k l (d.open? o)
+      go true o = follows_stepped g o k l (d.open? o g.sound)
       go false o = let r = d.closed o in refused_closed g o n r.0 r.1
 
   asks_stepped : Good v → cleans (effect_of c) ≡ false → opens (effect_of c) true ≡ true → opens (effect_of c) false ≡ false →
@@ -107,7 +104,7 @@ module _ (c : Call) (a : Answer) (v w : View) where
           (record {
             step = subst (λ b. Step (capacity_of v) b (state_of v) (event c a) (state_of v)) (sym o)
                 (record {
-                  answer = when_not _ _ _ k (d.open? o);
+                  answer = when_not _ _ _ k (d.open? o g.sound);
                   reading = sym left;
                   is_open_after = o ∙ sym (ap (λ b. cond (is_granted (event c a)) b true) l ∙ cond_same (is_granted (event c a)) true);
                 });
@@ -123,7 +120,7 @@ module _ (a : Answer) (v w : View) (g : Good v) where
     where
       go : (b : Bool) → is_open v ≡ b → Stepped clean a v w
       go true o =
-          let f = d.open? o in
+          let f = d.open? o g.sound in
           record {
             step = by_open clean a v w o
                 (record {

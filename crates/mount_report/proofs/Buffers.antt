@@ -4,7 +4,7 @@ use Rattle.std.proofs.lemmas.List.{length-append, take-append-le, take_all}
 use Rattle.std.proofs.lemmas.Bool.{eq-eqb}
 use Rattle.std.specs.Result.{result_unwrap_or}
 use Rattle.keeping.proofs.Lists.{any_reverse}
-use Rattle.readings.specs.Versions.{any, has}
+use Rattle.readings.specs.Versions.{has}
 use Rattle.refusals.specs.declared.types.Refusal.{Refusal}
 use Rattle.rules.specs.Calls.{granted, filled}
 use Rattle.rules.specs.Told.{told, size_value}

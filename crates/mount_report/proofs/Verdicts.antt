@@ -11,7 +11,7 @@ use Rattle.rules.specs.Told.{refused_by, told, tick_value}
 use Rattle.rules.specs.declared.types.Tick.{Tick}
 use Rattle.store.specs.Views.{View, is_open, reading_of, capacity_of}
 use Rattle.store.specs.Deeds.{refused_with, Mounts}
-use Rattle.mount_report.specs.Lines.{opened_text, refusal_line, mount_text}
+use Rattle.mount_report.specs.Lines.{Ready, opened_text, refusal_line, mount_text}
 use Rattle.mount_report.proofs.Granted.{some_number}
 
 -- By a verdict's number n: `b` says whether it is 0.
@@ -36,6 +36,9 @@ module _ (v w : View) where
       refused_line (eqb verdict.number 0) (reading_of v).clock verdict.number verdict.values (opened_text (capacity_of v) (reading_of v)) f (mounts.closed closed)
 
   module _ (t : Tick) (mounts : Mounts v (told tick_value [] (Ok t)) w) where
+    pub opened_ready : Ready w
+    opened_ready = record { opens = (mounts.granted refl).opens; sound = (mounts.granted refl).sound }
+
     -- Mount is granted on a closed store only.
     was_closed : is_open v ≡ false
     was_closed = go (is_open v) refl

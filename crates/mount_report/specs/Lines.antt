@@ -12,6 +12,12 @@ use Rattle.rules.specs.Calls.{born_at}
 use Rattle.inspection.specs.Descriptions.{text, held_text, quoted}
 use Rattle.inspection.specs.Reports.{line}
 use Rattle.rules.specs.declared.types.Tick.{Tick}
+use Rattle.store.specs.Views.{View, is_open, Sound}
+
+-- A store that is open, with memory that tells what its pages say.
+pub record Ready (v : View) : Type 0 where
+  pub opens : is_open v ≡ true
+  pub sound : Sound v
 
 -- A state that can be listed: the present one, which is None, or that of a held number.
 abbrev pub Known : Reading → Option Tick → Type 0

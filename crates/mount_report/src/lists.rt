@@ -53,9 +53,9 @@ fn name_text(heap: Global, frozen: Option<Tick>) -> Result<String, AllocError>
 impl<C: Chip> Mounted<'_, C> {
     // The birth of what a sector holds in a state.
     fn birth_in(&self, frozen: Option<Tick>, sector: u32) -> Option<Tick>
-        requires known { Known (reading_of (seen self.now.store.now)) frozen }
+        requires known { Known (reading_of (seen C.Chip self.now.store.now)) frozen }
         requires sector { sector < 2048 }
-        ensures { since_value result ≡ born_at (version_in (reading_of (seen self.now.store.now)) frozen sector) }
+        ensures { since_value result ≡ born_at (version_in (reading_of (seen C.Chip self.now.store.now)) frozen sector) }
     {
         let sector = SectorNumber(sector);
         match frozen {
@@ -66,8 +66,8 @@ impl<C: Chip> Mounted<'_, C> {
 
     // The entries of all sectors.
     fn entries_text(&self, frozen: Option<Tick>) -> Result<String, AllocError>
-        requires { Known (reading_of (seen self.now.store.now)) frozen }
-        ensures { IfOk result (λ text. string_bytes text ≡ entries (reading_of (seen self.now.store.now)) frozen 2048) }
+        requires { Known (reading_of (seen C.Chip self.now.store.now)) frozen }
+        ensures { IfOk result (λ text. string_bytes text ≡ entries (reading_of (seen C.Chip self.now.store.now)) frozen 2048) }
     {
         let mut text = String::new(self.heap);
         // Over numbers: a store is asked for each sector by its number.
@@ -80,8 +80,8 @@ impl<C: Chip> Mounted<'_, C> {
 
     // The line of a state.
     pub(crate) fn list_line(&self, frozen: Option<Tick>) -> Result<String, AllocError>
-        requires { Known (reading_of (seen self.now.store.now)) frozen }
-        ensures { IfOk result (λ text. string_bytes text ≡ list_line (reading_of (seen self.now.store.now)) frozen) }
+        requires { Known (reading_of (seen C.Chip self.now.store.now)) frozen }
+        ensures { IfOk result (λ text. string_bytes text ≡ list_line (reading_of (seen C.Chip self.now.store.now)) frozen) }
     {
         let name = name_text(self.heap, frozen)?;
         let entries = or_none(self.heap, self.entries_text(frozen)?)?;
@@ -94,8 +94,8 @@ impl<C: Chip> Mounted<'_, C> {
         text: &mut String,
         numbers: &[u32],
     ) -> Result<(), AllocError>
-        requires { (k : ℕ) → k < length numbers.now → has (slice_index numbers.now k) (reading_of (seen self.now.store.now)).held ≡ true }
-        ensures { OnOk result (string_bytes text.new ≡ string_bytes text.old ++ state_lines (reading_of (seen self.now.store.now)) numbers.now) }
+        requires { (k : ℕ) → k < length numbers.now → has (slice_index numbers.now k) (reading_of (seen C.Chip self.now.store.now)).held ≡ true }
+        ensures { OnOk result (string_bytes text.new ≡ string_bytes text.old ++ state_lines (reading_of (seen C.Chip self.now.store.now)) numbers.now) }
     {
         for number in numbers {
             let line = self.list_line(Some(Tick(*number)))?;

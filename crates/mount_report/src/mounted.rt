@@ -1,6 +1,6 @@
 // A store that mount has opened, and where the text on it is made.
-ghost use Rattle.std.specs.Prelude.{◌≡◌, true};
-ghost use Rattle.store.specs.Views.{seen, is_open};
+ghost use Rattle.store.specs.Views.{seen};
+ghost use Rattle.mount_report.specs.Lines.{Ready};
 
 use chip::Chip;
 use std::alloc::Global;
@@ -10,5 +10,5 @@ use store::Store;
 pub(crate) struct Mounted<'a, C: Chip> {
     pub(crate) heap: Global,
     pub(crate) store: &'a Store<C>,
-    ghost opens: { is_open (seen store.now) ≡ true },
+    ghost ready: { ∥ Ready (seen C.Chip store.now) ∥₁ },
 }

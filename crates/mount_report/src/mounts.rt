@@ -30,7 +30,7 @@ pub fn mount_lines<C: Chip>(heap: Global, store: &mut Store<C>) -> Result<String
     ensures kept { C.Chip.kept store.new.chip ≡ C.Chip.kept store.old.chip }
     ensures blocks { C.Chip.blocks store.new.chip ≡ C.Chip.blocks store.old.chip }
     ensures pages { C.Chip.pages store.new.chip ≡ C.Chip.pages store.old.chip }
-    ensures text { is_open (seen store.old) ≡ false → IfOk result (λ text. string_bytes text ≡ mount_text (C.Chip.blocks store.old.chip) C.Chip.per (C.Chip.pages store.old.chip)) }
+    ensures text { is_open (seen C.Chip store.old) ≡ false → IfOk result (λ text. string_bytes text ≡ mount_text (C.Chip.blocks store.old.chip) C.Chip.per (C.Chip.pages store.old.chip)) }
 {
     match store.mount() {
         Ok(clock) => Mounted { heap, store }.text(clock),

@@ -34,7 +34,7 @@ impl<C: Chip> Mounted<'_, C> {
     // The held numbers, rising. (One function for these and the label would take the call, the room and the
     // element as parameters, and be longer than both.)
     fn held_numbers(&self) -> Result<Vec<u32>, AllocError>
-        ensures { IfOk result (λ numbers. numbers.items ≡ reverse (reading_of (seen self.now.store.now)).held) }
+        ensures { IfOk result (λ numbers. numbers.items ≡ reverse (reading_of (seen C.Chip self.now.store.now)).held) }
     {
         let mut buffer = [0; MOST_HELD];
         let count = self.store.held(&mut buffer).unwrap_or(0);
@@ -42,7 +42,7 @@ impl<C: Chip> Mounted<'_, C> {
     }
 
     fn label_bytes(&self) -> Result<Vec<u8>, AllocError>
-        ensures { IfOk result (λ bytes. bytes.items ≡ (reading_of (seen self.now.store.now)).label) }
+        ensures { IfOk result (λ bytes. bytes.items ≡ (reading_of (seen C.Chip self.now.store.now)).label) }
     {
         let mut buffer = [0; LABEL_BYTES];
         let size = self.store.label(&mut buffer).unwrap_or(0);
@@ -51,7 +51,7 @@ impl<C: Chip> Mounted<'_, C> {
 
     // The needed versions and the capacity.
     fn count(&self) -> Count
-        ensures { count_value result ≡ length (reading_of (seen self.now.store.now)).versions ∷ capacity_of (seen self.now.store.now) ∷ [] }
+        ensures { count_value result ≡ length (reading_of (seen C.Chip self.now.store.now)).versions ∷ capacity_of (seen C.Chip self.now.store.now) ∷ [] }
     {
         let none = Count {
             needed: 0,
@@ -62,8 +62,8 @@ impl<C: Chip> Mounted<'_, C> {
 
     // All lines, by the clock that mount answered.
     pub(crate) fn text(&self, clock: Tick) -> Result<String, AllocError>
-        requires { clock.0 ≡ (reading_of (seen self.now.store.now)).clock }
-        ensures { IfOk result (λ text. string_bytes text ≡ opened_text (capacity_of (seen self.now.store.now)) (reading_of (seen self.now.store.now))) }
+        requires { clock.0 ≡ (reading_of (seen C.Chip self.now.store.now)).clock }
+        ensures { IfOk result (λ text. string_bytes text ≡ opened_text (capacity_of (seen C.Chip self.now.store.now)) (reading_of (seen C.Chip self.now.store.now))) }
     {
         let held = self.held_numbers()?;
         let label = self.label_bytes()?;

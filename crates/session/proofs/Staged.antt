@@ -40,14 +40,14 @@ changes_kept : (c : Call) (v w : View) (a : Answer) → Good v → Changes c v a
 changes_kept c v w a g d = go (is_open v) refl
   where
     go : (b : Bool) → is_open v ≡ b → Kept v w
-    go true o = let f = d.open? o in record { sound = λ _. f.sound; blocks = f.same_size.blocks }
+    go true o = let f = d.open? o (g o) in record { sound = λ _. f.sound; blocks = f.same_size.blocks }
     go false o = kept_same v w g (d.closed o).1
 
 cleans_kept : (v w : View) (a : Answer) → Good v → Cleans v a w → Kept v w
 cleans_kept v w a g d = go (is_open v) refl
   where
     go : (b : Bool) → is_open v ≡ b → Kept v w
-    go true o = let f = d.open? o in record { sound = λ _. f.sound; blocks = f.same_size.blocks }
+    go true o = let f = d.open? o (g o) in record { sound = λ _. f.sound; blocks = f.same_size.blocks }
     go false o = kept_same v w g (d.closed o).1
 
 closes_kept : (v w : View) (a : Answer) → Good v → Closes v a w → Kept v w

@@ -20,7 +20,7 @@ fn open_slip<C: Chip>(store: &mut Store<C>, slips: &mut Vec<Slip>) -> Result<Val
     requires { vec_len slips.old < vec_capacity slips.old }
     ensures kept { C.Chip.kept store.new.chip ≡ C.Chip.kept store.old.chip }
     ensures capacity { vec_capacity slips.new ≡ vec_capacity slips.old }
-    ensures called { Called open_slip (seen store.old) (slip_numbers slips.old.items) (told values_of [] result) (seen store.new) (slip_numbers slips.new.items) }
+    ensures called { Called open_slip (seen C.Chip store.old) (slip_numbers slips.old.items) (told values_of [] result) (seen C.Chip store.new) (slip_numbers slips.new.items) }
     ensures kind { can_answer Open result ≡ true }
 {
     let slip = store.open()?;
@@ -42,7 +42,7 @@ pub(crate) fn perform<C: Chip>(
     requires numbers { numbers.old ≡ numbers_of request }
     ensures kept { C.Chip.kept store.new.chip ≡ C.Chip.kept store.old.chip }
     ensures capacity { vec_capacity slips.new ≡ vec_capacity slips.old }
-    ensures turn { Turn (call_of request.entry) (seen store.old) (slip_numbers slips.old.items) (bytes.new ++ numbers.new) result (seen store.new) (slip_numbers slips.new.items) }
+    ensures turn { Turn (call_of request.entry) (seen C.Chip store.old) (slip_numbers slips.old.items) (bytes.new ++ numbers.new) result (seen C.Chip store.new) (slip_numbers slips.new.items) }
     ensures kind { IfSome result (λ outcome. can_answer request.entry outcome ≡ true) }
 {
     match request {

@@ -20,7 +20,7 @@ pub(crate) fn keep_leftovers<'a, C: Chip>(
     memory: Memory<'a>,
 ) -> Vec<Made<'a>>
     ensures kept { C.Chip.kept store.new.chip ≡ C.Chip.kept store.old.chip }
-    ensures goes { (late : List ℕ) × Goes (map keep_slip late) (events_of memory.entry.done.items) (seen store.old) (slip_numbers memory.entry.slips.items) (events_of result.items) (seen store.new) [] }
+    ensures goes { (late : List ℕ) × Goes (map keep_slip late) (events_of memory.entry.done.items) (seen C.Chip store.old) (slip_numbers memory.entry.slips.items) (events_of result.items) (seen C.Chip store.new) [] }
     ensures kinds { All OfItsKind result.items }
 {
     let Memory {

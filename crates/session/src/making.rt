@@ -16,7 +16,7 @@ use store::Store;
 // Makes the calls to come, and notes what was answered.
 pub(crate) fn make_calls<C: Chip>(store: &mut Store<C>, memory: &mut Memory)
     ensures kept { C.Chip.kept store.new.chip ≡ C.Chip.kept store.old.chip }
-    ensures goes { Goes (blank_calls memory.old.blanks.items) (events_of memory.old.done.items) (seen store.old) (slip_numbers memory.old.slips.items) (events_of memory.new.done.items) (seen store.new) (slip_numbers memory.new.slips.items) }
+    ensures goes { Goes (blank_calls memory.old.blanks.items) (events_of memory.old.done.items) (seen C.Chip store.old) (slip_numbers memory.old.slips.items) (events_of memory.new.done.items) (seen C.Chip store.new) (slip_numbers memory.new.slips.items) }
 {
     // (A `for` would take the blanks out of the memory, whose type says that there is room for their answers.)
     while let Some(blank) = memory.blanks.pop() {

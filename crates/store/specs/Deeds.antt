@@ -27,12 +27,12 @@ pub record Follows (c : Call) (v : View) (a : Answer) (w : View) : Type 0 where
 -- A change: a write, delete, freeze, release, revert, open, keep or back.
 pub record Changes (c : Call) (v : View) (a : Answer) (w : View) : Type 0 where
   pub closed : is_open v ≡ false → (a ≡ refused 2 c) × (w ≡ v)
-  pub open? : is_open v ≡ true → Follows c v a w
+  pub open? : is_open v ≡ true → Sound v → Follows c v a w
 
 -- A query: the store stays as it is.
 pub record Asks (c : Call) (v : View) (a : Answer) : Type 0 where
   pub closed : is_open v ≡ false → a ≡ refused 2 c
-  pub open? : is_open v ≡ true → a ≡ (rule (capacity_of v) c (reading_of v)).answer
+  pub open? : is_open v ≡ true → Sound v → a ≡ (rule (capacity_of v) c (reading_of v)).answer
 
 -- Clean loses so many stale pages, 0 exactly where there was none, and nothing else is changed. (Which block is cleaned is open: v and w differ in where pages stand.)
 pub record Loses (v : View) (a : Answer) (w : View) : Type 0 where
@@ -46,7 +46,7 @@ pub record Loses (v : View) (a : Answer) (w : View) : Type 0 where
 
 pub record Cleans (v : View) (a : Answer) (w : View) : Type 0 where
   pub closed : is_open v ≡ false → (a ≡ refused 2 clean) × (w ≡ v)
-  pub open? : is_open v ≡ true → Loses v a w
+  pub open? : is_open v ≡ true → Sound v → Loses v a w
 
 -- The chip is as it was, and the store open or closed.
 pub record SameChip (v w : View) : Type 0 where

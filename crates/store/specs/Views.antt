@@ -21,8 +21,8 @@ abbrev pub is_open : View → Bool
 is_open v = is_some v.memory
 
 -- A store, by the meaning of its chip: blocks, pages to a block, pages.
-abbrev pub seen : {C : Type 0} {chip : Ghosts C} → Store C chip → View
-seen {chip = chip} s =
+abbrev pub seen : {C : Type 0} → Ghosts C → Store C → View
+seen chip s =
     record { blocks = chip.blocks s.chip; per = chip.per; pages = chip.pages s.chip; memory = s.index }
 
 -- What its chip reads as, and how many versions it can keep.
@@ -32,9 +32,9 @@ reading_of v = reading (sayings v.pages)
 abbrev pub capacity_of : View → ℕ
 capacity_of v = capacity v.blocks v.per
 
--- Mount accepts the pages of an open store, and memory tells what they say. (By its type, no store is otherwise.)
+-- Mount accepts the pages of an open store, and memory tells what they say. A store is made closed, mount and format open it so, and every call on an open store keeps it.
 abbrev pub Sound : View → Type 0
-Sound v = ForSome v.memory (λ ix. ∥ Opened v.blocks v.per v.pages ix ∥₁)
+Sound v = ForSome v.memory (λ ix. Opened v.blocks v.per v.pages ix)
 
 -- The chip has as many blocks and pages as before.
 pub record SameSize (v w : View) : Type 0 where

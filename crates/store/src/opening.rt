@@ -27,10 +27,9 @@ impl<C: Chip> Store<C> {
     }
 
     // Erases the chip, makes an empty store with this label on it, and opens it.
-    // (It ends as mount does: a helper for these three lines would have to ask that the memory be sound.)
     pub fn format(&mut self, label: &[u8]) -> Result<Tick, Refusal>
         ensures kept { C.Chip.kept self.new.chip ≡ C.Chip.kept self.old.chip }
-        ensures does { Formats label.now (seen self.old) (told tick_value [] result) (seen self.new) }
+        ensures does { Formats label.now (seen C.Chip self.old) (told tick_value [] result) (seen C.Chip self.new) }
     {
         if self.index.is_some() {
             return Err(Refusal::StoreOpen);
@@ -44,7 +43,7 @@ impl<C: Chip> Store<C> {
     // Opens the store that the chip's pages tell, and answers its clock.
     pub fn mount(&mut self) -> Result<Tick, Refusal>
         ensures kept { C.Chip.kept self.new.chip ≡ C.Chip.kept self.old.chip }
-        ensures does { Mounts (seen self.old) (told tick_value [] result) (seen self.new) }
+        ensures does { Mounts (seen C.Chip self.old) (told tick_value [] result) (seen C.Chip self.new) }
     {
         if self.index.is_some() {
             return Err(Refusal::StoreOpen);
@@ -58,7 +57,7 @@ impl<C: Chip> Store<C> {
     // Forgets all but the chip.
     pub fn close(&mut self) -> Result<(), Refusal>
         ensures kept { C.Chip.kept self.new.chip ≡ C.Chip.kept self.old.chip }
-        ensures does { Closes (seen self.old) (told no_value [] result) (seen self.new) }
+        ensures does { Closes (seen C.Chip self.old) (told no_value [] result) (seen C.Chip self.new) }
     {
         self.index.take().ok_or(Refusal::StoreClosed)?;
         Ok(())

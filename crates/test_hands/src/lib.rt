@@ -101,7 +101,7 @@ pub fn read<C: Chip>(
     sector: u32,
     mut buffer: [u8; 512],
 ) -> Filled<Holding, [u8; 512]>
-    ensures { FilledBy (calls.read sector buffer) (seen store.now) holding_value result }
+    ensures { FilledBy (calls.read sector buffer) (seen C.Chip store.now) holding_value result }
 {
     let answer = store.read(SectorNumber(sector), &mut buffer);
     (numbered(answer), buffer)
@@ -113,21 +113,21 @@ pub fn look<C: Chip>(
     sector: u32,
     mut buffer: [u8; 512],
 ) -> Filled<Holding, [u8; 512]>
-    ensures { FilledBy (calls.look state sector buffer) (seen store.now) holding_value result }
+    ensures { FilledBy (calls.look state sector buffer) (seen C.Chip store.now) holding_value result }
 {
     let answer = store.look(Tick(state), SectorNumber(sector), &mut buffer);
     (numbered(answer), buffer)
 }
 
 pub fn held<C: Chip>(store: &Store<C>, mut buffer: [u32; 8]) -> Filled<usize, [u32; 8]>
-    ensures { FilledBy (calls.ask_held buffer) (seen store.now) size_value result }
+    ensures { FilledBy (calls.ask_held buffer) (seen C.Chip store.now) size_value result }
 {
     let answer = store.held(&mut buffer);
     (numbered(answer), buffer)
 }
 
 pub fn label<C: Chip>(store: &Store<C>, mut buffer: [u8; 32]) -> Filled<usize, [u8; 32]>
-    ensures { FilledBy (calls.ask_label buffer) (seen store.now) size_value result }
+    ensures { FilledBy (calls.ask_label buffer) (seen C.Chip store.now) size_value result }
 {
     let answer = store.label(&mut buffer);
     (numbered(answer), buffer)

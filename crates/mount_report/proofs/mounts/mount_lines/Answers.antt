@@ -7,12 +7,12 @@ use Rattle.mount_report.proofs.Verdicts.{refused_text, opened_clock, opened_text
 use Rattle.mount_report.proofs.mounts.mount_lines.Goals as goal
 
 pub text-requires : goal.text-requires
-text-requires g c = opened_clock (seen c.args.store.now) (seen c.mount.new.self) c.in-Ok.clock c.in-Ok.ensures.does
+text-requires g c = opened_clock (seen g.C.Chip c.args.store.now) (seen g.C.Chip c.mount.new.self) c.in-Ok.clock c.in-Ok.ensures.does
 
 pub returns-in-Ok : goal.returns-in-Ok
 returns-in-Ok g c =
-    let v = seen c.args.store.now in
-    let w = seen c.mount.new.self in
+    let v = seen g.C.Chip c.args.store.now in
+    let w = seen g.C.Chip c.mount.new.self in
     let mounts = c.in-Ok.ensures.does in
     let same = (mounts.granted refl).same_chip in
     record {
@@ -24,8 +24,8 @@ returns-in-Ok g c =
 
 pub returns-in-Err : goal.returns-in-Err
 returns-in-Err g c =
-    let v = seen c.args.store.now in
-    let w = seen c.mount.new.self in
+    let v = seen g.C.Chip c.args.store.now in
+    let w = seen g.C.Chip c.mount.new.self in
     let mounts = c.in-Err.ensures.does in
     let same = mounts.refusal (some_number c.in-Err.refusal) in
     record {

@@ -14,7 +14,7 @@ invariant-loop-slip g l =
       room : vec_len l.done + into_iter_len l.slips ≤ vec_capacity l.done;
       kept : g.C.Chip.kept l.store.chip ≡ g.C.Chip.kept l.initial.store.chip;
       late : List ℕ;
-      goes : Goes (map keep_slip late) (events_of (vec_items l.initial.done)) (seen l.initial.store) (slip_numbers (into_iter_items l.initial.slips)) (events_of (vec_items l.done)) (seen l.store) (slip_numbers (into_iter_items l.slips));
+      goes : Goes (map keep_slip late) (events_of (vec_items l.initial.done)) (seen g.C.Chip l.initial.store) (slip_numbers (into_iter_items l.initial.slips)) (events_of (vec_items l.done)) (seen g.C.Chip l.store) (slip_numbers (into_iter_items l.slips));
       kinds : All OfItsKind (vec_items l.done);
     }
 

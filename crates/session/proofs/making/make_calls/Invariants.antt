@@ -14,7 +14,7 @@ invariant-loop-blank g l =
       kept : g.C.Chip.kept l.store.chip ≡ g.C.Chip.kept l.initial.store.chip;
       made : List Call;
       split : blank_calls (vec_items was.blanks) ≡ blank_calls (vec_items l.memory.blanks) ++ made;
-      goes : Goes made (events_of (vec_items was.done)) (seen l.initial.store) (slip_numbers (vec_items was.slips)) (events_of (vec_items l.memory.done)) (seen l.store) (slip_numbers (vec_items l.memory.slips));
+      goes : Goes made (events_of (vec_items was.done)) (seen g.C.Chip l.initial.store) (slip_numbers (vec_items was.slips)) (events_of (vec_items l.memory.done)) (seen g.C.Chip l.store) (slip_numbers (vec_items l.memory.slips));
     }
 
 abbrev pub decreases-loop-blank : goal.decreases-loop-blank

@@ -4,5 +4,5 @@ use Rattle.mount_report.proofs.mounted.Mounted.count.Goals as goal
 
 pub returns : goal.returns
 returns g c =
-    let v = seen c.args.self.now.store.now in
-    count_value_lem v c.args.self.now.opens c.count.result _ c.unwrap_or.result c.unwrap_or.ensures c.count.ensures
+    let v = seen g.C.Chip c.args.self.now.store.now in
+    count_value_lem v c.args.self.now.ready c.count.result _ c.unwrap_or.result c.unwrap_or.ensures c.count.ensures

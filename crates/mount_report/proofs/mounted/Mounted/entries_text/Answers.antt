@@ -20,7 +20,7 @@ loop-sector-init g c = c.new-text.ensures.bytes ∙ no_entries _ c.args.frozen
 
 pub loop-sector-preserved : goal.loop-sector-preserved
 loop-sector-preserved g c =
-    let r = reading_of (seen c.args.self.now.store.now) in
+    let r = reading_of (seen g.C.Chip c.args.self.now.store.now) in
     let n = c.loop-sector.sector in
     let text = pushed c.as_str.result.now refl c.in_ok-push_str.was c.push_str.ensures.bytes in
     let part = c.as_str.ensures.value ∙ c.in_ok-entry.ensures ∙ ap (entry n) c.birth_in.ensures in
@@ -28,6 +28,6 @@ loop-sector-preserved g c =
 
 pub returns : goal.returns
 returns g c =
-    let r = reading_of (seen c.args.self.now.store.now) in
+    let r = reading_of (seen g.C.Chip c.args.self.now.store.now) in
     let all : c.loop-sector.sector ≡ 2048 = omega arith in
     c.loop-sector.invariant ∙ ap (entries r c.args.frozen) all

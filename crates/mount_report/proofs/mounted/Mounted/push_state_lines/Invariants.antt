@@ -5,4 +5,4 @@ use Rattle.mount_report.proofs.mounted.Mounted.push_state_lines.Given as goal
 
 abbrev pub invariant-loop-number : goal.invariant-loop-number
 invariant-loop-number g l =
-    string_bytes l.text ≡ string_bytes l.initial.text ++ state_lines (reading_of (seen l.self.store.now)) (take l.number-index l.numbers)
+    string_bytes l.text ≡ string_bytes l.initial.text ++ state_lines (reading_of (seen g.C.Chip l.self.store.now)) (take l.number-index l.numbers)

@@ -27,7 +27,7 @@ push_state_lines-requires g c =
 
 pub returns : goal.returns
 returns g c =
-    let v = seen c.args.self.now.store.now in
+    let v = seen g.C.Chip c.args.self.now.store.now in
     let r = reading_of v in
     let held = c.in_ok-held.ensures in
     let label = c.as_slice-2.ensures.value ∙ c.in_ok-label.ensures in
