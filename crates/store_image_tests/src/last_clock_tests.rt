@@ -95,8 +95,7 @@ fn slip_of_five<C: Chip>(store: &mut Store<C>) -> Result<Slip, Fail> {
     Ok(store.open()?)
 }
 
-// How a slip is spent. (No closure: a bound can't speak of a function over a `&mut Store<C>` yet, since that type
-// has a ghost field.)
+// How a slip is spent.
 #[derive(Clone, Copy)]
 enum Spending {
     Keep,

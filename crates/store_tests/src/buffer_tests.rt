@@ -66,7 +66,7 @@ fn refusals<C: Chip>(store: &mut Store<C>) -> Result<(), Fail> {
 #[test]
 fn a_refusal_leaves_the_buffer_as_it_was() -> Result<(), Fail> {
     let mut words = [0xFFFFu16; 2 * BLOCK_WORDS];
-    on_store!(Nor::new(&mut words), refusals)
+    on_store(Nor::new(&mut words), refusals)
 }
 
 // A sector that does not exist is told before a length.
@@ -82,7 +82,7 @@ fn lengths_of_writes<C: Chip>(store: &mut Store<C>) -> Result<(), Fail> {
 #[test]
 fn a_write_takes_512_bytes() -> Result<(), Fail> {
     let mut words = [0xFFFFu16; 2 * BLOCK_WORDS];
-    on_store!(Nor::new(&mut words), lengths_of_writes)
+    on_store(Nor::new(&mut words), lengths_of_writes)
 }
 
 // The buffers of these steps are filled before.

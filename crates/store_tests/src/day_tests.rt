@@ -43,7 +43,11 @@ fn morning<C: Chip>(store: &mut Store<C>, capacity: usize) -> Result<(), Fail> {
 // A slip of 8 is spent by back: the write after it is gone.
 fn noon<C: Chip>(store: &mut Store<C>) -> Result<(), Fail> {
     check_eq(
-        slip_around!(store, write(store, 3, 68), back),
+        slip_around(
+            store,
+            |store| write(store, 3, 68),
+            |store, slip| tick(store.back(slip)),
+        )?,
         (8, Ok(9), Ok(10)),
     )?;
     play(store, &[Read(3, 65), Held(&[3])])
@@ -52,7 +56,11 @@ fn noon<C: Chip>(store: &mut Store<C>) -> Result<(), Fail> {
 // A slip of 11 is spent by keep: the write after it stays.
 fn evening<C: Chip>(store: &mut Store<C>) -> Result<(), Fail> {
     check_eq(
-        slip_around!(store, write(store, 5, 69), keep),
+        slip_around(
+            store,
+            |store| write(store, 5, 69),
+            |store, slip| tick(store.keep(slip)),
+        )?,
         (11, Ok(12), Ok(13)),
     )?;
     play(store, &[Read(5, 69), Held(&[3])])
@@ -97,7 +105,7 @@ fn nand_day<C: Chip>(store: &mut Store<C>) -> Result<(), Fail> {
 #[test]
 fn a_day_on_nand() -> Result<(), Fail> {
     let mut bytes = [0xFFu8; 3 * BLOCK_BYTES];
-    on_store!(Nand::new(&mut bytes), nand_day)
+    on_store(Nand::new(&mut bytes), nand_day)
 }
 
 // The blocks beside the partition stay as they were.

@@ -70,7 +70,7 @@ fn incident<C: Chip>(store: &mut Store<C>) -> Result<(), Fail> {
 #[test]
 fn a_frozen_state_outlives_300_writes_and_deletes() -> Result<(), Fail> {
     let mut words = [0xFFFFu16; 4 * BLOCK_WORDS];
-    on_store!(Nor::new(&mut words), incident)
+    on_store(Nor::new(&mut words), incident)
 }
 
 fn overwritten<C: Chip>(store: &mut Store<C>) -> Result<(), Fail> {
@@ -86,7 +86,7 @@ fn overwritten<C: Chip>(store: &mut Store<C>) -> Result<(), Fail> {
 #[test]
 fn a_frozen_state_outlives_changes_of_its_sectors() -> Result<(), Fail> {
     let mut words = [0xFFFFu16; 4 * BLOCK_WORDS];
-    on_store!(Nor::new(&mut words), overwritten)
+    on_store(Nor::new(&mut words), overwritten)
 }
 
 #[test]

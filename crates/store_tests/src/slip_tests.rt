@@ -46,7 +46,11 @@ fn a_slip_of_another_store_is_honoured_by_its_number() -> Result<(), Fail> {
 fn keep_too_late<C: Chip>(store: &mut Store<C>) -> Result<(), Fail> {
     state_three(store)?;
     check_eq(
-        slip_around!(store, release(store, 5), keep),
+        slip_around(
+            store,
+            |store| release(store, 5),
+            |store, slip| tick(store.keep(slip)),
+        )?,
         (5, Ok(6), Err(9)),
     )
 }
@@ -55,7 +59,11 @@ fn keep_too_late<C: Chip>(store: &mut Store<C>) -> Result<(), Fail> {
 fn back_too_late<C: Chip>(store: &mut Store<C>) -> Result<(), Fail> {
     keep_too_late(store)?;
     check_eq(
-        slip_around!(store, revert(store, 3), back),
+        slip_around(
+            store,
+            |store| revert(store, 3),
+            |store, slip| tick(store.back(slip)),
+        )?,
         (7, Ok(8), Err(9)),
     )?;
     play(store, &[Held(&[3]), Read(5, 65), Freeze(Ok(9))])
@@ -64,19 +72,26 @@ fn back_too_late<C: Chip>(store: &mut Store<C>) -> Result<(), Fail> {
 #[test]
 fn a_slip_of_an_ended_number_is_refused() -> Result<(), Fail> {
     let mut words = [0xFFFFu16; 2 * BLOCK_WORDS];
-    on_store!(Nor::new(&mut words), back_too_late)
+    on_store(Nor::new(&mut words), back_too_late)
 }
 
 fn spend_when_closed<C: Chip>(store: &mut Store<C>) -> Result<(), Fail> {
     state_three(store)?;
-    check_eq(slip_around!(store, close(store), keep), (5, Ok(()), Err(2)))?;
+    check_eq(
+        slip_around(
+            store,
+            |store| close(store),
+            |store, slip| tick(store.keep(slip)),
+        )?,
+        (5, Ok(()), Err(2)),
+    )?;
     play(store, &[Mount(Ok(5)), Held(&[3, 5])])
 }
 
 #[test]
 fn a_slip_spent_on_a_closed_store_leaves_its_number_held() -> Result<(), Fail> {
     let mut words = [0xFFFFu16; 2 * BLOCK_WORDS];
-    on_store!(Nor::new(&mut words), spend_when_closed)
+    on_store(Nor::new(&mut words), spend_when_closed)
 }
 
 // Whether open is granted, or its number; a slip is spent by keep.
@@ -104,5 +119,5 @@ fn refused_opens<C: Chip>(store: &mut Store<C>) -> Result<(), Fail> {
 #[test]
 fn a_refused_open_gives_no_slip() -> Result<(), Fail> {
     let mut words = [0xFFFFu16; 2 * BLOCK_WORDS];
-    on_store!(Nor::new(&mut words), refused_opens)
+    on_store(Nor::new(&mut words), refused_opens)
 }

@@ -37,7 +37,7 @@ fn fill_over_and_over<C: Chip>(store: &mut Store<C>) -> Result<(), Fail> {
 #[test]
 fn two_blocks_are_filled_and_overwritten() -> Result<(), Fail> {
     let mut words = [0xFFFFu16; 2 * BLOCK_WORDS];
-    on_store!(Nor::new(&mut words), fill_over_and_over)
+    on_store(Nor::new(&mut words), fill_over_and_over)
 }
 
 // Each round ticks three times: a state is frozen, gone back to and released.
@@ -66,7 +66,7 @@ fn nothing_fits<C: Chip>(store: &mut Store<C>) -> Result<(), Fail> {
 #[test]
 fn capacity_0_still_freezes_and_reverts() -> Result<(), Fail> {
     let mut rows = [Row::erased(); 4];
-    on_store!(Tiny::new(&mut rows), nothing_fits)
+    on_store(Tiny::new(&mut rows), nothing_fits)
 }
 
 fn fill_beside_a_state<C: Chip>(store: &mut Store<C>) -> Result<(), Fail> {
@@ -121,5 +121,5 @@ fn overwrite_beside_a_state<C: Chip>(store: &mut Store<C>) -> Result<(), Fail> {
 #[test]
 fn four_blocks_of_two_pages_keep_four_versions() -> Result<(), Fail> {
     let mut rows = [Row::erased(); 8];
-    on_store!(Tiny::new(&mut rows), overwrite_beside_a_state)
+    on_store(Tiny::new(&mut rows), overwrite_beside_a_state)
 }
