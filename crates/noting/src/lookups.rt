@@ -34,11 +34,13 @@ pub fn page_in_state(ix: &Index, number: u32, sector: Sector) -> Option<PageNumb
     ensures page { result ≡ page_in_state ix.now number sector.number }
     ensures shows { (blocks per : ℕ) (pages : List Page) → Consistent blocks per pages ix.now → has number (held_of ix.now.held) ≡ true → Shows pages result (in_state (reading (sayings pages)) number sector.number) }
 {
-    // (Two variables: as an `Option` of a pair, asked at each record, it takes twice as long.)
+    // (By number and with two variables: over the slice it takes half as long again, and with the two as an
+    // `Option` of a pair, asked at each record, twice as long.)
     let mut found = None;
     let mut birth = 0;
-    for (i, saved) in ix.records[..ix.pages].iter().enumerate() {
-        if is_version_of(*saved, number, sector) && birth < saved.birth {
+    for i in 0..ix.pages {
+        let saved = ix.at(i);
+        if is_version_of(saved, number, sector) && birth < saved.birth {
             found = Some(PageNumber(i as u32));
             birth = saved.birth;
         }
