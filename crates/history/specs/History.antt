@@ -42,6 +42,11 @@ abbrev pub HistoryIfSound : List ℕ → List Event → View → Type 0
 HistoryIfSound label [] w = History label [] w
 HistoryIfSound label (e ∷ es) w = (v : View) × HistoryIfSound label es v × (Tells v → Does e.call v e.answer w)
 
--- The premise is met at each step: such a list is a history.
+-- A history where memory told what the pages say before each call, so that the call did what its contract says.
+abbrev pub SoundHistory : List ℕ → List Event → View → Type 0
+SoundHistory label [] w = History label [] w
+SoundHistory label (e ∷ es) w = (v : View) × SoundHistory label es v × Sound v × Does e.call v e.answer w
+
+-- The premise is met at each step.
 abbrev pub PremiseIsMet : Type 0
-PremiseIsMet = (label : List ℕ) (es : List Event) (w : View) → HistoryIfSound label es w → History label es w
+PremiseIsMet = (label : List ℕ) (es : List Event) (w : View) → HistoryIfSound label es w → SoundHistory label es w × History label es w
